@@ -1,4 +1,5 @@
 pub mod Answers
+pub mod Examples
 pub mod Hmac
 pub mod Padding
 pub mod Sha256

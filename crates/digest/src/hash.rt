@@ -1,8 +1,8 @@
 //! SHA-256 as FIPS 180-4 has it, of a message that may come in two parts.
 ghost use Prim.Native.Nat.{_+_, _*_, _/_, _≤_, _<_};
 ghost use Rattle.digest.specs.Padding.{Overlaid, padded-length};
-ghost use Rattle.digest.specs.Sha256.{Ch, Maj, Σ₀, Σ₁, σ₀, σ₁, word, word-bytes, round, rounds, plus, message-schedule, compress, padded, nth-block, digest-bytes, sha256-of};
-ghost use lib.ListN.{length, take};
+ghost use Rattle.digest.specs.Sha256.{K, Ch, Maj, Σ₀, Σ₁, σ₀, σ₁, word, word-bytes, round, rounds, plus, message-schedule, compress, padded, nth-block, digest-bytes, sha256-of};
+ghost use lib.ListN.{length, take, getD};
 ghost use mathlib.Core.List.{_++_};
 ghost use mathlib.Core.Path.{_≡_};
 
@@ -12,8 +12,8 @@ const DIGEST_LEN: usize = 32;
 
 const ROUNDS: usize = 64;
 
-/// The constants K of the rounds.
-const K: [u32; 64] = [
+/// The constants of the rounds.
+const ROUND_CONSTANTS: [u32; ROUNDS] = [
     0x428a_2f98,
     0x7137_4491,
     0xb5c0_fbcf,
@@ -105,6 +105,14 @@ pub struct Words {
     h: u32,
 }
 
+/// The constant of round `t`.
+fn round_constant(t: usize) -> u32
+    requires { ⌜ t < 64 ⌝ }
+    ensures { λ r. ⌜ r ≡ getD K t 0 ⌝ }
+{
+    ROUND_CONSTANTS[t]
+}
+
 fn choose(x: u32, y: u32, z: u32) -> u32
     ensures { λ r. ⌜ r ≡ Ch x y z ⌝ }
 {
@@ -185,7 +193,7 @@ impl Words {
     {
         let mut variables = self;
         for t in 0..ROUNDS {
-            variables = variables.round(K[t], schedule[t]);
+            variables = variables.round(round_constant(t), schedule[t]);
         }
         variables
     }

@@ -39,13 +39,7 @@ pub fn hmac_sha256(key: &[u8], text: &[u8], work: &mut [u8]) -> Result<[u8; 32],
     ensures wiped { λ _. ⌜ now (work .exit) ≡ replicate (length (now (work .entry))) 0 ⌝ }
 {
     let guard = Wiped { block: work };
-    if guard.block.len() != BLOCK_LEN {
-        return Err(Fault::of(Reason::Room));
-    }
-    if key.len() > MAX_KEY {
-        return Err(Fault::of(Reason::Room));
-    }
-    if text.len() > MAX_TEXT {
+    if guard.block.len() != BLOCK_LEN || key.len() > MAX_KEY || text.len() > MAX_TEXT {
         return Err(Fault::of(Reason::Room));
     }
     Ok(mac(guard.block, key, text))
