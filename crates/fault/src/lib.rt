@@ -2,6 +2,7 @@
 ghost use Rattle.fault.specs.Reasons.{number-of, meaning-of, printed};
 ghost use Rattle.std.specs.declared.option.Option.the-variants.{Some};
 ghost use mathlib.Core.Path.{_≡_};
+use std::error::Error;
 use std::fmt;
 
 /// Why a call was refused.
@@ -132,3 +133,5 @@ pub impl fmt::Display for Fault as FaultDisplay {
         write!(f, "refusal {number} at byte {offset}: {meaning}")
     }
 }
+
+pub impl Error for Fault as FaultError {}

@@ -1,0 +1,64 @@
+//! The pit's program: a shift shown from beginning to end, and each layer by itself at the command line.
+mod bench;
+mod digests;
+mod hex;
+mod shift;
+mod vectors;
+
+use std::env;
+use std::error::AnyError;
+
+/// What is printed where the words on the command line say nothing that can be done.
+const USAGE: &str =
+    "usage: pit | pit sha256 FILE | pit hmac KEYHEX FILE | pit digests | pit vectors | pit bench";
+
+/// Runs the command; what went wrong is said in words, with status 1.
+fn main(rt: LibcRuntime) -> Result<(), AnyError> {
+    let done = run(&rt);
+    if let Err(error) = &done {
+        eprintln!(rt, "pit: {error}")?;
+    }
+    done
+}
+
+fn run(rt: &LibcRuntime) -> Result<(), AnyError> {
+    let mut words = env::args(rt)?;
+    let _program = words.next();
+    let Some(command) = words.next() else {
+        return shift::show(rt);
+    };
+    let first = words.next();
+    let second = words.next();
+    if words.next().is_some() {
+        return Err(USAGE.into());
+    }
+    match (first, second) {
+        (None, None) => alone(rt, command.as_str()),
+        (Some(word), None) => with_one(rt, command.as_str(), word.as_str()),
+        (Some(word), Some(other)) => with_two(rt, command.as_str(), word.as_str(), other.as_str()),
+        (None, Some(_)) => Err(USAGE.into()),
+    }
+}
+
+fn alone(rt: &LibcRuntime, command: &str) -> Result<(), AnyError> {
+    match command {
+        "bench" => bench::show(rt),
+        "digests" => digests::batch(rt),
+        "vectors" => vectors::show(rt),
+        _ => Err(USAGE.into()),
+    }
+}
+
+fn with_one(rt: &LibcRuntime, command: &str, word: &str) -> Result<(), AnyError> {
+    match command {
+        "sha256" => digests::sha256_file(rt, word),
+        _ => Err(USAGE.into()),
+    }
+}
+
+fn with_two(rt: &LibcRuntime, command: &str, word: &str, other: &str) -> Result<(), AnyError> {
+    match command {
+        "hmac" => digests::hmac_file(rt, word, other),
+        _ => Err(USAGE.into()),
+    }
+}
