@@ -1,0 +1,2 @@
+pub mod DemonstrationKeys
+pub mod Hex

@@ -26,7 +26,7 @@ pub(crate) fn sha256_file(rt: &LibcRuntime, path: &str) -> Result<(), AnyError> 
 /// Prints the tag of a file under a key that is given in hex.
 pub(crate) fn hmac_file(rt: &LibcRuntime, key: &str, path: &str) -> Result<(), AnyError> {
     let Some(key) = hex::read(rt.alloc(), key)? else {
-        return Err("the key is not in hex (two lower-case digits for each byte, or - for no bytes)".into());
+        return Err("the key is not in hex (two digits for each byte, or - for no bytes)".into());
     };
     let text = fs::read(rt, path)?;
     let mut work = [0; WORK_LEN];

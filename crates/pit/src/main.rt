@@ -2,6 +2,8 @@
 mod bench;
 mod digests;
 mod hex;
+mod seals;
+mod services;
 mod shift;
 mod vectors;
 
@@ -10,7 +12,7 @@ use std::error::AnyError;
 
 /// What is printed where the words on the command line say nothing that can be done.
 const USAGE: &str =
-    "usage: pit | pit sha256 FILE | pit hmac KEYHEX FILE | pit digests | pit vectors | pit bench";
+    "usage: pit | pit sha256 FILE | pit hmac KEYHEX FILE | pit digests | pit vectors | pit bench | pit board FILE | pit ledger FILE | pit keys FILE | pit seal card OWNER | pit seal register ROWS";
 
 /// Runs the command; what went wrong is said in words, with status 1.
 fn main(rt: LibcRuntime) -> Result<(), AnyError> {
@@ -51,6 +53,9 @@ fn alone(rt: &LibcRuntime, command: &str) -> Result<(), AnyError> {
 
 fn with_one(rt: &LibcRuntime, command: &str, word: &str) -> Result<(), AnyError> {
     match command {
+        "board" => services::board_file(rt, word),
+        "keys" => seals::keys_file(rt, word),
+        "ledger" => services::ledger_file(rt, word),
         "sha256" => digests::sha256_file(rt, word),
         _ => Err(USAGE.into()),
     }
@@ -59,6 +64,7 @@ fn with_one(rt: &LibcRuntime, command: &str, word: &str) -> Result<(), AnyError>
 fn with_two(rt: &LibcRuntime, command: &str, word: &str, other: &str) -> Result<(), AnyError> {
     match command {
         "hmac" => digests::hmac_file(rt, word, other),
+        "seal" => seals::serve(rt, word, other),
         _ => Err(USAGE.into()),
     }
 }
