@@ -2,6 +2,7 @@
 mod bench;
 mod digests;
 mod hex;
+mod replay;
 mod seals;
 mod services;
 mod shift;
@@ -12,7 +13,7 @@ use std::error::AnyError;
 
 /// What is printed where the words on the command line say nothing that can be done.
 const USAGE: &str =
-    "usage: pit | pit sha256 FILE | pit hmac KEYHEX FILE | pit digests | pit vectors | pit bench | pit board FILE | pit ledger FILE | pit keys FILE | pit seal card OWNER | pit seal register ROWS";
+    "usage: pit | pit sha256 FILE | pit hmac KEYHEX FILE | pit digests | pit vectors | pit bench | pit board FILE | pit ledger FILE | pit keys FILE | pit seal card OWNER | pit seal register ROWS | pit replay [FILE]";
 
 /// Runs the command; what went wrong is said in words, with status 1.
 fn main(rt: LibcRuntime) -> Result<(), AnyError> {
@@ -46,6 +47,7 @@ fn alone(rt: &LibcRuntime, command: &str) -> Result<(), AnyError> {
     match command {
         "bench" => bench::show(rt),
         "digests" => digests::batch(rt),
+        "replay" => replay::standard_input(rt),
         "vectors" => vectors::show(rt),
         _ => Err(USAGE.into()),
     }
@@ -56,6 +58,7 @@ fn with_one(rt: &LibcRuntime, command: &str, word: &str) -> Result<(), AnyError>
         "board" => services::board_file(rt, word),
         "keys" => seals::keys_file(rt, word),
         "ledger" => services::ledger_file(rt, word),
+        "replay" => replay::file(rt, word),
         "sha256" => digests::sha256_file(rt, word),
         _ => Err(USAGE.into()),
     }

@@ -56,7 +56,7 @@ fn party_at(place: usize) -> u16
 }
 
 /// Keys for demonstrations alone: each is SHA-256 of its party's number in two bytes, so everybody can work them out.
-fn demonstration_keys() -> Result<[Key; PARTIES], Fault>
+pub(crate) fn demonstration_keys() -> Result<[Key; PARTIES], Fault>
     ensures { λ r. ⌜ All-made r ⌝ }
 {
     let mut keys = [[0; KEY_SIZE]; PARTIES];
@@ -171,7 +171,7 @@ fn serve_lines<S: Seal>(rt: &LibcRuntime, seal: &mut S) -> io::Result<()> {
 }
 
 /// A new register, or why there is none in words.
-fn open_register(rt: &LibcRuntime, rows: usize) -> Result<Register, AnyError> {
+pub(crate) fn open_register(rt: &LibcRuntime, rows: usize) -> Result<Register, AnyError> {
     match Register::open(rt.alloc(), rows) {
         Ok(register) => Ok(register),
         Err(Unopened::TooManyRows) => Err("a register has at most 100000 rows".into()),

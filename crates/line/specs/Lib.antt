@@ -1,0 +1,12 @@
+pub mod SetUp
+pub mod Layout
+pub mod Rules
+pub mod CallLine
+pub mod OrderLine
+pub mod AnswerLine
+pub mod CertLine
+pub mod CommittedLine
+pub mod SheetLine
+pub mod ChargeLine
+pub mod Kinds
+pub mod Lines

@@ -1,0 +1,4 @@
+pub mod Calls
+pub mod Deliveries
+pub mod Histories
+pub mod Outbox
