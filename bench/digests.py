@@ -50,3 +50,9 @@ for what in ("sha256-1MB", "hmac-60"):
     for name in contestants:
         ratio = best[what, name] / best[what, "program"]
         print(f"{what:10} {name:10} {best[what, name]:12.0f} ns   the program runs at {ratio:.2f} of its speed")
+
+# A new CALL with a card costs 11 blocks: 4 for the CALL's tag (30 bytes), 2 for the history (62 bytes), 5 for the ORDER's tag (108 bytes).
+BLOCKS = 11
+block = best["sha256-1MB", "program"] / (1_000_000 / 64)
+call = best["lead-call", "program"]
+print(f"lead-call  program    {call:12.0f} ns   {call / (BLOCKS * block):.2f} times the cost of its {BLOCKS} hash blocks; {1e9 / call:,.0f} calls a second on one core")

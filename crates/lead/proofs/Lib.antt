@@ -1,1 +1,3 @@
 pub mod Heard
+pub mod Ordered
+pub mod Takes

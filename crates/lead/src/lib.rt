@@ -1,4 +1,6 @@
 //! The lead: it gives every call its place and history, and tells the boxes by an ORDER.
+pub mod laws;
+
 ghost use Prim.Native.Nat.{_<_};
 ghost use Rattle.fault.specs.Verdict.{verdict};
 ghost use Rattle.lead.specs.Leading.{assigned, client-of, hears, holding, lead-opened, lead-takes, next-row, order-of, outdated, row-in};

@@ -2,11 +2,13 @@
 mod bench;
 mod digests;
 mod hex;
+mod orders;
 mod replay;
 mod seals;
 mod services;
 mod shift;
 mod vectors;
+mod votes;
 
 use std::env;
 use std::error::AnyError;

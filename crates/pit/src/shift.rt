@@ -1,8 +1,10 @@
 //! The embedded shift: calls by named foremen on a board and on a ledger, taken through every layer that there is.
 use crate::hex::Hex;
 use crate::hex::HexDisplay;
+use crate::orders;
 use crate::seals;
 use crate::services;
+use crate::votes;
 use digest::sha256;
 use digest::sha256_two;
 use fault::Fault;
@@ -159,6 +161,14 @@ impl fmt::Display for Deed as DeedDisplay {
     }
 }
 
+pub impl fmt::Display for Call as CallDisplay {
+    fn fmt<W: fmt::Write>(&self, f: &mut fmt::Formatter<W>) -> fmt::Result {
+        let foreman = self.foreman;
+        let deed = self.deed;
+        write!(f, "{foreman} {deed}")
+    }
+}
+
 impl Deed {
     /// The body: operation, a, b and w, and a tail of zeros.
     fn body(self) -> [u8; BODY] {
@@ -180,6 +190,16 @@ impl Deed {
 }
 
 impl Call {
+    /// The first call of the shift, under a stamp.
+    pub(crate) fn first(stamp: u32) -> Call {
+        Call {
+            foreman: "Asta",
+            tablet: 0,
+            stamp,
+            deed: Deed::Send { truck: 11, spot: 5 },
+        }
+    }
+
     pub(crate) fn party(self) -> u16 {
         FIRST_TABLET.saturating_add(self.tablet)
     }
@@ -197,7 +217,7 @@ impl Call {
 }
 
 /// Writes bytes at a place of a text, as far as they fit.
-fn put(text: &mut [u8], at: usize, bytes: &[u8]) {
+pub(crate) fn put(text: &mut [u8], at: usize, bytes: &[u8]) {
     for (i, byte) in bytes.iter().enumerate() {
         if at < text.len() && i < text.len() - at {
             text[at + i] = *byte;
@@ -225,6 +245,8 @@ pub(crate) fn show(rt: &LibcRuntime) -> Result<(), AnyError> {
     services::show_piles(rt, &ledger)?;
     show_print(rt, &ledger)?;
     seals::show_shift(rt, &BOARD_SHIFT)?;
+    orders::show_shift(rt, &BOARD_SHIFT)?;
+    votes::show(rt)?;
     state_theorems();
     Ok(())
 }
@@ -240,6 +262,8 @@ fn state_theorems() {
     seal::promises::only_stamps_are_new();
     seal::promises::stamps_for_its_parties();
     seal::promises::register_accepts_the_stamped();
+    lead::laws::laws_hold();
+    lead::laws::runs_are_takes();
 }
 
 /// The history after one more call.
@@ -252,10 +276,8 @@ fn show_histories(rt: &LibcRuntime, calls: &[Call]) -> Result<(), AnyError> {
     for (i, call) in calls.iter().enumerate() {
         history = link(&history, &call.text())?;
         let place = i.saturating_add(1);
-        let foreman = call.foreman;
-        let deed = call.deed;
         let shown = Hex { bytes: &history };
-        println!(rt, "place {place}: {foreman} {deed}, history {shown}")?;
+        println!(rt, "place {place}: {call}, history {shown}")?;
     }
     Ok(())
 }
@@ -283,12 +305,7 @@ fn show_reply(
     value: u32,
     meaning: &str,
 ) -> Result<(), AnyError> {
-    let foreman = call.foreman;
-    let deed = call.deed;
-    println!(
-        rt,
-        "{foreman} {deed}: code {code} value {value} ({meaning})"
-    )?;
+    println!(rt, "{call}: code {code} value {value} ({meaning})")?;
     Ok(())
 }
 

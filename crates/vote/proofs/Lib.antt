@@ -1,0 +1,6 @@
+mod Same
+mod Listing
+mod Leading
+pub mod Voters
+pub mod Quorum
+pub mod Seats
