@@ -3,23 +3,17 @@ use Prim.Native.Nat.{ℕ, _+_}
 use mathlib.Core.Bool.{Bool, true}
 use mathlib.Core.List.{List}
 use mathlib.Core.Path.{_≡_, sym, ap, _∙_}
-use lib.Dec.{eqb}
 use Rattle.fault.specs.Verdict.{Verdict, good, bad}
-use Rattle.line.proofs.Verdicts.{entered-good, passed-good, then-good, then-goes, then-stops, good-same}
+use Rattle.line.proofs.Good.{order-good, order-inside-good}
+use Rattle.line.proofs.Verdicts.{then-goes, then-stops}
 use Rattle.line.specs.ChargeLine as charge
-use Rattle.line.specs.CallLine as call
 use Rattle.line.specs.Layout.{part, number-at}
 use Rattle.line.specs.OrderLine as order
 use Rattle.line.specs.Rules.{_then_, sized, ruled}
 use Rattle.line.specs.declared.pit.Pit.{Pit}
 
 pub order-inside-says : (pit : Pit) (at : ℕ) (bs : List ℕ) (m : order.Model) → order.read-inside pit at bs ≡ good m → m ≡ order.fields bs
-order-inside-says pit at bs m e =
-    let entry = entered-good at bs (λ k. eqb k order.kind) (order.read pit at bs) m e in
-    let n = order.fields bs in
-    let inside = call.read-inside pit (at + order.call-at) (part order.call-at call.size bs) in
-    let own = passed-good order.size at bs pit (n .view) (order.may-send pit (n .sender)) (order.in-range n) (inside then good n) m (entry .1) in
-    sym (good-same n m (then-good inside (good n) m (own .1) .1))
+order-inside-says pit at bs m e = sym (order-good pit at bs m (order-inside-good pit at bs m e .1) .says)
 
 -- a CHARGE's verdict, where its own checks passed, is that of what comes then
 pub charge-goes : (pit : Pit) (at : ℕ) (bs : List ℕ) (sender view : ℕ) (may : Bool) (w : Verdict charge.Model)

@@ -22,9 +22,11 @@ pub record Model : Type 0 where
   pub reply : List ℕ
   pub tag : List ℕ
 
+-- the number of the kind
 abbrev pub kind : ℕ
 kind = 3
 
+-- where the parts begin, each behind the one before it
 abbrev pub place-at : ℕ
 place-at = header-size
 
@@ -43,6 +45,7 @@ reply-at = stamp-at + stamp-width
 abbrev pub tag-at : ℕ
 tag-at = reply-at + reply-width
 
+-- the size of the whole line
 abbrev pub size : ℕ
 size = tag-at + tag-width
 
@@ -76,6 +79,7 @@ fields bytes = record {
 abbrev pub may-send : Pit → ℕ → Bool
 may-send pit party = is-replica pit party
 
+-- every field in its range
 abbrev pub in-range : Model → Bool
 in-range m = in-numbers (m .place) && in-numbers (m .stamp) && in-clients (m .client)
 

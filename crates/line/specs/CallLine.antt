@@ -19,9 +19,11 @@ pub record Model : Type 0 where
   pub body : List ℕ
   pub tag : List ℕ
 
+-- the number of the kind
 abbrev pub kind : ℕ
 kind = 1
 
+-- where the parts begin, each behind the one before it
 abbrev pub stamp-at : ℕ
 stamp-at = header-size
 
@@ -31,6 +33,7 @@ body-at = stamp-at + stamp-width
 abbrev pub tag-at : ℕ
 tag-at = body-at + body-width
 
+-- the size of the whole line
 abbrev pub size : ℕ
 size = tag-at + tag-width
 
@@ -58,6 +61,7 @@ fields bytes = record {
 abbrev pub may-send : Pit → ℕ → Bool
 may-send pit party = is-client party
 
+-- every field in its range
 abbrev pub in-range : Model → Bool
 in-range m = in-numbers (m .stamp)
 

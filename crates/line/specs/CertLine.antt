@@ -27,9 +27,11 @@ pub record Model : Type 0 where
   pub entries : List ℕ
   pub tag : List ℕ
 
+-- the number of the kind
 abbrev pub kind : ℕ
 kind = 4
 
+-- where the parts begin, each behind the one before it
 abbrev pub place-at : ℕ
 place-at = header-size
 
@@ -55,6 +57,7 @@ entries-at = count-at + count-width
 abbrev pub entry-size : ℕ
 entry-size = replica-width + tag-width
 
+-- where the tag begins in an entry
 abbrev pub entry-tag-at : ℕ
 entry-tag-at = replica-width
 
@@ -62,9 +65,11 @@ entry-tag-at = replica-width
 abbrev pub entries-size : ℕ → ℕ
 entries-size count = entry-size * count
 
+-- where the tag begins behind so many entries
 abbrev pub tag-at : ℕ → ℕ
 tag-at count = entries-at + entries-size count
 
+-- the size of a line with so many entries
 abbrev pub size-of : ℕ → ℕ
 size-of count = tag-at count + tag-width
 
@@ -137,6 +142,7 @@ abbrev pub rising : ℕ → ℕ → List ℕ → Bool
 rising low end [] = true
 rising low end (n ∷ ns) = leb low n && (ltb n end && rising (n + 1) end ns)
 
+-- every field in its range
 abbrev pub in-range : Pit → Model → Bool
 in-range pit m =
     in-numbers (m .place) && (in-numbers (m .stamp) && (in-clients (m .client) && (eqb (m .sender) (client-party (m .client))

@@ -20,9 +20,11 @@ pub record Model : Type 0 where
   pub second : order.Model
   pub tag : List ℕ
 
+-- the number of the kind
 abbrev pub kind : ℕ
 kind = 7
 
+-- where the parts begin, each behind the one before it
 abbrev pub first-at : ℕ
 first-at = header-size
 
@@ -32,6 +34,7 @@ second-at = first-at + order.size
 abbrev pub tag-at : ℕ
 tag-at = second-at + order.size
 
+-- the size of the whole line
 abbrev pub size : ℕ
 size = tag-at + tag-width
 

@@ -21,9 +21,11 @@ pub record Model : Type 0 where
   pub stamp : ℕ
   pub tag : List ℕ
 
+-- the number of the kind
 abbrev pub kind : ℕ
 kind = 5
 
+-- where the parts begin, each behind the one before it
 abbrev pub place-at : ℕ
 place-at = header-size
 
@@ -39,6 +41,7 @@ stamp-at = client-at + client-width
 abbrev pub tag-at : ℕ
 tag-at = stamp-at + stamp-width
 
+-- the size of the whole line
 abbrev pub size : ℕ
 size = tag-at + tag-width
 
@@ -70,6 +73,7 @@ fields bytes = record {
 abbrev pub may-send : Pit → ℕ → Bool
 may-send pit party = is-replica pit party
 
+-- every field in its range
 abbrev pub in-range : Model → Bool
 in-range m = in-numbers (m .place) && in-numbers (m .stamp) && in-clients (m .client)
 

@@ -29,6 +29,7 @@ kind-number Committed = committed.kind
 kind-number Sheet = sheet.kind
 kind-number Charge = charge.kind
 
+-- all there are
 abbrev pub all-kinds : List Kind
 all-kinds = Call ∷ Order ∷ Answer ∷ Cert ∷ Committed ∷ Sheet ∷ Charge ∷ []
 

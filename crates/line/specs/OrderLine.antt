@@ -21,9 +21,11 @@ pub record Model : Type 0 where
   pub call : call.Model
   pub tag : List ℕ
 
+-- the number of the kind
 abbrev pub kind : ℕ
 kind = 2
 
+-- where the parts begin, each behind the one before it
 abbrev pub place-at : ℕ
 place-at = header-size
 
@@ -36,6 +38,7 @@ call-at = history-at + history-width
 abbrev pub tag-at : ℕ
 tag-at = call-at + call.size
 
+-- the size of the whole line
 abbrev pub size : ℕ
 size = tag-at + tag-width
 
@@ -65,6 +68,7 @@ fields bytes = record {
 abbrev pub may-send : Pit → ℕ → Bool
 may-send pit party = is-lead pit party
 
+-- every field in its range
 abbrev pub in-range : Model → Bool
 in-range m = in-numbers (m .place)
 

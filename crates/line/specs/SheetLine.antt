@@ -20,9 +20,11 @@ pub record Model : Type 0 where
   pub print : List ℕ
   pub tag : List ℕ
 
+-- the number of the kind
 abbrev pub kind : ℕ
 kind = 6
 
+-- where the parts begin, each behind the one before it
 abbrev pub place-at : ℕ
 place-at = header-size
 
@@ -35,6 +37,7 @@ print-at = history-at + history-width
 abbrev pub tag-at : ℕ
 tag-at = print-at + print-width
 
+-- the size of the whole line
 abbrev pub size : ℕ
 size = tag-at + tag-width
 
@@ -64,6 +67,7 @@ fields bytes = record {
 abbrev pub may-send : Pit → ℕ → Bool
 may-send pit party = is-replica pit party
 
+-- every field in its range
 abbrev pub in-range : Model → Bool
 in-range m = in-numbers (m .place) && on-sheet (m .place)
 

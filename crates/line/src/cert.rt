@@ -5,7 +5,7 @@ ghost use Rattle.line.specs.CertLine.{read as read-at, answer-of, shown, may-s
 ghost use Rattle.line.specs.Rules.{outcome, written, memory-after};
 ghost use Rattle.line.specs.SetUp.{quorum-of};
 ghost use Rattle.std.specs.Options.{mapped};
-ghost use Prim.Native.Nat.{_^_, _<_, _≤_};
+ghost use Prim.Native.Nat.{_+_, _^_, _<_, _≤_};
 ghost use lib.ListN.{length};
 ghost use mathlib.Core.Bool.{true};
 ghost use mathlib.Core.Path.{_≡_};
@@ -61,6 +61,14 @@ fn entries_of(pit: &Pit) -> usize
     ENTRY_SIZE * pit.quorum() as usize
 }
 
+/// The least number that may follow a box's: they rise strictly.
+fn next_after(voter: u16) -> u16
+    requires { ⌜ voter < 65535 ⌝ }
+    ensures { λ r. ⌜ r ≡ voter + 1 ⌝ }
+{
+    1 + voter
+}
+
 /// The boxes of the entries rise strictly, and all are boxes of the pit.
 fn rises(entries: &[u8], count: u16, replicas: u16) -> bool
     requires { ⌜ entries-size count ≤ length (now entries) ⌝ }
@@ -72,7 +80,7 @@ fn rises(entries: &[u8], count: u16, replicas: u16) -> bool
         if voter < low || voter >= replicas {
             return false;
         }
-        low = voter + 1;
+        low = next_after(voter);
     }
     true
 }

@@ -1,2 +1,3 @@
 pub mod DemonstrationKeys
 pub mod Hex
+pub mod KindSets

@@ -2,6 +2,7 @@
 mod bench;
 mod digests;
 mod hex;
+mod lines;
 mod orders;
 mod replay;
 mod seals;
@@ -15,7 +16,7 @@ use std::error::AnyError;
 
 /// What is printed where the words on the command line say nothing that can be done.
 const USAGE: &str =
-    "usage: pit | pit sha256 FILE | pit hmac KEYHEX FILE | pit digests | pit vectors | pit bench | pit board FILE | pit ledger FILE | pit keys FILE | pit seal card OWNER | pit seal register ROWS | pit replay [FILE]";
+    "usage: pit | pit sha256 FILE | pit hmac KEYHEX FILE | pit digests | pit vectors | pit bench | pit board FILE | pit ledger FILE | pit keys FILE | pit seal card OWNER | pit seal register ROWS | pit read F VIEW KINDS HEX | pit read-many | pit replay [FILE]";
 
 /// Runs the command; what went wrong is said in words, with status 1.
 fn main(rt: LibcRuntime) -> Result<(), AnyError> {
@@ -32,16 +33,19 @@ fn run(rt: &LibcRuntime) -> Result<(), AnyError> {
     let Some(command) = words.next() else {
         return shift::show(rt);
     };
-    let first = words.next();
-    let second = words.next();
+    let (a, b, c, d) = (words.next(), words.next(), words.next(), words.next());
     if words.next().is_some() {
         return Err(USAGE.into());
     }
-    match (first, second) {
-        (None, None) => alone(rt, command.as_str()),
-        (Some(word), None) => with_one(rt, command.as_str(), word.as_str()),
-        (Some(word), Some(other)) => with_two(rt, command.as_str(), word.as_str(), other.as_str()),
-        (None, Some(_)) => Err(USAGE.into()),
+    match (&a, &b, &c, &d) {
+        (None, None, None, None) => alone(rt, command.as_str()),
+        (Some(a), None, None, None) => with_one(rt, command.as_str(), a.as_str()),
+        (Some(a), Some(b), None, None) => with_two(rt, command.as_str(), a.as_str(), b.as_str()),
+        (Some(a), Some(b), Some(c), Some(d)) if command.as_str() == "read" => {
+            lines::read_one(rt, a.as_str(), b.as_str(), c.as_str(), d.as_str())?;
+            Ok(())
+        }
+        _ => Err(USAGE.into()),
     }
 }
 
@@ -49,6 +53,10 @@ fn alone(rt: &LibcRuntime, command: &str) -> Result<(), AnyError> {
     match command {
         "bench" => bench::show(rt),
         "digests" => digests::batch(rt),
+        "read-many" => {
+            lines::read_many(rt)?;
+            Ok(())
+        }
         "replay" => replay::standard_input(rt),
         "vectors" => vectors::show(rt),
         _ => Err(USAGE.into()),

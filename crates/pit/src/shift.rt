@@ -262,6 +262,8 @@ fn state_theorems() {
     seal::promises::only_stamps_are_new();
     seal::promises::stamps_for_its_parties();
     seal::promises::register_accepts_the_stamped();
+    line_laws::laws_hold();
+    line_laws::set_ups_hold();
     lead::laws::laws_hold();
     lead::laws::runs_are_takes();
 }

@@ -1,0 +1,5 @@
+pub mod Pieces
+pub mod Wholes
+pub mod Readings
+pub mod Says
+pub mod Returns
