@@ -239,7 +239,7 @@ for _ in range(30000):
 
 lines = [f"{f} {view} {kinds} {data.hex() or '-'}" for f, view, kinds, data in cases]
 want = [expected(*c) for c in cases]
-for bad in ("", "1 0 all", "1 0 all 0", "1 0 all 0g", "1 0 8 -", "1 0 1,,2 -", "1 x all -", "999 0 all -", "1 4294967296 all -", "1 0 all - -", "1 0 all FF"):
+for bad in ("", "1 0 all", "1 0 all 0", "1 0 all 0g", "1 0 8 -", "1 0 1,,2 -", "1 x all -", "1 4294967296 all -", "1 0 all - -", "18446744073709551616 0 all -"):
     lines.append(bad)
     want.append("bad command")
 run = subprocess.run([sys.argv[1], "read-many"], input="\n".join(lines) + "\n", capture_output=True, text=True)

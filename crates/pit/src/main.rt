@@ -14,9 +14,31 @@ mod votes;
 use std::env;
 use std::error::AnyError;
 
-/// What is printed where the words on the command line say nothing that can be done.
-const USAGE: &str =
-    "usage: pit | pit sha256 FILE | pit hmac KEYHEX FILE | pit digests | pit vectors | pit bench | pit board FILE | pit ledger FILE | pit keys FILE | pit seal card OWNER | pit seal register ROWS | pit read F VIEW KINDS HEX | pit read-many | pit replay [FILE]";
+/// The commands, for whoever gave words that say nothing that can be done.
+const COMMANDS: [&str; 14] = [
+    "pit                          a shift from beginning to end",
+    "pit sha256 FILE              a file's digest",
+    "pit hmac KEYHEX FILE         a file's tag under a key",
+    "pit digests                  digests and tags of many inputs, from standard input",
+    "pit vectors                  the standards' vectors",
+    "pit board FILE               bodies performed on a board",
+    "pit ledger FILE              bodies performed on a ledger",
+    "pit keys FILE                a key file, looked through",
+    "pit seal card OWNER          a card that answers commands from standard input",
+    "pit seal register ROWS       a register that does",
+    "pit read F VIEW KINDS HEX    what bytes are to a pit",
+    "pit read-many                the same, from standard input",
+    "pit replay [FILE]            a trace, from a file or from standard input",
+    "pit bench                    nanoseconds, for the benchmark",
+];
+
+/// Lists the commands on standard error.
+fn usage(rt: &LibcRuntime) -> Result<(), AnyError> {
+    for command in &COMMANDS {
+        eprintln!(rt, "{command}")?;
+    }
+    Err("these are the commands".into())
+}
 
 /// Runs the command; what went wrong is said in words, with status 1.
 fn main(rt: LibcRuntime) -> Result<(), AnyError> {
@@ -35,7 +57,7 @@ fn run(rt: &LibcRuntime) -> Result<(), AnyError> {
     };
     let (a, b, c, d) = (words.next(), words.next(), words.next(), words.next());
     if words.next().is_some() {
-        return Err(USAGE.into());
+        return usage(rt);
     }
     match (&a, &b, &c, &d) {
         (None, None, None, None) => alone(rt, command.as_str()),
@@ -45,7 +67,7 @@ fn run(rt: &LibcRuntime) -> Result<(), AnyError> {
             lines::read_one(rt, a.as_str(), b.as_str(), c.as_str(), d.as_str())?;
             Ok(())
         }
-        _ => Err(USAGE.into()),
+        _ => usage(rt),
     }
 }
 
@@ -59,7 +81,7 @@ fn alone(rt: &LibcRuntime, command: &str) -> Result<(), AnyError> {
         }
         "replay" => replay::standard_input(rt),
         "vectors" => vectors::show(rt),
-        _ => Err(USAGE.into()),
+        _ => usage(rt),
     }
 }
 
@@ -70,7 +92,7 @@ fn with_one(rt: &LibcRuntime, command: &str, word: &str) -> Result<(), AnyError>
         "ledger" => services::ledger_file(rt, word),
         "replay" => replay::file(rt, word),
         "sha256" => digests::sha256_file(rt, word),
-        _ => Err(USAGE.into()),
+        _ => usage(rt),
     }
 }
 
@@ -78,6 +100,6 @@ fn with_two(rt: &LibcRuntime, command: &str, word: &str, other: &str) -> Result<
     match command {
         "hmac" => digests::hmac_file(rt, word, other),
         "seal" => seals::serve(rt, word, other),
-        _ => Err(USAGE.into()),
+        _ => usage(rt),
     }
 }
