@@ -116,7 +116,7 @@ impl Lead {
         line: &'a [u8],
         room: usize,
     ) -> Result<Call<'a>, Fault>
-        ensures { outcome call_shown result ≡ hears self.now.pit (meaning seal.now) line.now room }
+        ensures { outcome call_shown result ≡ hears self.now.pit (S.meaning seal.now) line.now room }
     {
         if !roomy(room) {
             return Err(Fault::of(Reason::Room));
@@ -255,7 +255,7 @@ impl Lead {
         line: &[u8],
         out: &mut [u8],
     ) -> Result<usize, Fault>
-        ensures { Carried (lead_of self.old.pit) (lead_takes self.old (meaning seal.old) line.now (length out.old)) (record { state = self.old; seal = meaning seal.old; out = out.old }) (record { state = self.new; seal = meaning seal.new; out = out.new }) result }
+        ensures { Carried (lead_of self.old.pit) (lead_takes self.old (S.meaning seal.old) line.now (length out.old)) (record { state = self.old; seal = S.meaning seal.old; out = out.old }) (record { state = self.new; seal = S.meaning seal.new; out = out.new }) result }
     {
         let call = self.hear_call(seal, line, out.len())?;
         let assignment = self.assign(&call)?;

@@ -16,6 +16,7 @@ mod votes;
 
 use anyhow::anyhow;
 use std::env;
+use std::process::ExitCode;
 
 /// The commands, for whoever gave words that say nothing that can be done.
 const COMMANDS: [&str; 14] = [
@@ -44,12 +45,14 @@ fn usage(rt: &HostRuntime) -> anyhow::Result<()> {
 }
 
 /// Runs the command; what went wrong is said in words, with status 1.
-fn main(rt: HostRuntime) -> anyhow::Result<()> {
-    let done = run(&rt);
-    if let Err(error) = &done {
-        eprintln!(rt; "pit: {error}")?;
+fn main(rt: HostRuntime) -> ExitCode {
+    match run(&rt) {
+        Ok(()) => ExitCode::SUCCESS,
+        Err(error) => {
+            let _ = eprintln!(rt; "pit: {error}");
+            ExitCode::FAILURE
+        }
     }
-    done
 }
 
 fn run(rt: &HostRuntime) -> anyhow::Result<()> {

@@ -259,7 +259,7 @@ pub(crate) fn keys_file(rt: &HostRuntime, path: &str) -> anyhow::Result<()> {
         Ok(_) => println!(rt; "{PARTIES} keys read")?,
         Err(why) => {
             let words = format!(in rt.alloc(); "{why}")?;
-            return Err(words.into());
+            return Err(anyhow!(words));
         }
     }
     Ok(())

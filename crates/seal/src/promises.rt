@@ -10,7 +10,7 @@ pub fn stamp_and_check<S: Seal>(
     party: u16,
     text: &[u8],
 ) -> Result<([u8; TAG_SIZE], bool), Fault>
-    ensures { Checked (meaning seal.old) (meaning seal.new) party text.now result }
+    ensures { Checked (S.meaning seal.old) (S.meaning seal.new) party text.now result }
 {
     let tag = seal.stamp(party, text)?;
     let said = seal.check(party, text, &tag);

@@ -44,7 +44,7 @@ pub fn deliver<S: Seal>(
     rest: &[u8],
     out: &mut [u8],
 ) -> Result<usize, Fault>
-    ensures { Delivery party text.now rest.now (record { state = tt; seal = meaning seal.old; out = out.old }) (record { state = tt; seal = meaning seal.new; out = out.new }) result }
+    ensures { Delivery party text.now rest.now (record { state = tt; seal = S.meaning seal.old; out = out.old }) (record { state = tt; seal = S.meaning seal.new; out = out.new }) result }
 {
     if !has_room(text.len(), rest.len(), out.len()) {
         return Err(Fault::of(Reason::Room));

@@ -71,24 +71,24 @@ impl<'a, V: Vote + Copy> Tally<'a, V> {
 
     /// How many boxes agree with the vote.
     pub fn agreeing(&self, vote: &V) -> usize
-        ensures count { result ≡ count_of agree vote.now self.now.rows.now }
-        ensures once { CountedOnce agree vote.now self.now.rows.now }
+        ensures count { result ≡ count_of V.agree vote.now self.now.rows.now }
+        ensures once { CountedOnce V.agree vote.now self.now.rows.now }
     {
         count(self.rows, vote)
     }
 
     /// The row of the lowest box with which at least `n` boxes agree.
     pub fn leading(&self, n: usize) -> Option<V>
-        ensures row { result ≡ leading_of agree n self.now.rows.now }
-        ensures lowest { Lowest agree n self.now.rows.now result }
+        ensures row { result ≡ leading_of V.agree n self.now.rows.now }
+        ensures lowest { Lowest V.agree n self.now.rows.now result }
     {
         first_leading(self.rows, n)
     }
 
     /// Writes the `n` lowest boxes that agree with the vote into the front of the memory, rising.
     pub fn voters(&self, vote: &V, n: usize, out: &mut [u16]) -> Result<(), Fault>
-        ensures answer { verdict result ≡ listed agree vote.now n self.now.rows.now out.old }
-        ensures after { out.new ≡ memory_listed agree vote.now n self.now.rows.now out.old }
+        ensures answer { verdict result ≡ listed V.agree vote.now n self.now.rows.now out.old }
+        ensures after { out.new ≡ memory_listed V.agree vote.now n self.now.rows.now out.old }
     {
         let rows = &*self.rows;
         if out.len() < n || rows.len() > MOST_BOXES {
@@ -104,7 +104,7 @@ impl<'a, V: Vote + Copy> Tally<'a, V> {
 
 /// Is there a vote in the row, and does it agree?
 fn row_agrees<V: Vote>(vote: &V, row: &Option<V>) -> bool
-    ensures { result ≡ row_agrees agree vote.now row.now }
+    ensures { result ≡ row_agrees V.agree vote.now row.now }
 {
     match row {
         Some(other) => vote.agrees(other),
@@ -114,14 +114,14 @@ fn row_agrees<V: Vote>(vote: &V, row: &Option<V>) -> bool
 
 /// What a row adds to the count: one if it agrees.
 fn weight<V: Vote>(vote: &V, row: &Option<V>) -> usize
-    ensures { result ≡ (if row_agrees agree vote.now row.now then 1 else 0) }
+    ensures { result ≡ (if row_agrees V.agree vote.now row.now then 1 else 0) }
 {
     if row_agrees(vote, row) { 1 } else { 0 }
 }
 
 /// How many rows agree with the vote.
 fn count<V: Vote>(rows: &[Option<V>], vote: &V) -> usize
-    ensures { result ≡ count_of agree vote.now rows.now }
+    ensures { result ≡ count_of V.agree vote.now rows.now }
 {
     let mut n = 0;
     for row in rows {
@@ -132,7 +132,7 @@ fn count<V: Vote>(rows: &[Option<V>], vote: &V) -> usize
 
 /// Is there a vote in the row, with which at least `n` rows agree?
 fn row_leads<V: Vote>(rows: &[Option<V>], n: usize, row: &Option<V>) -> bool
-    ensures { result ≡ leads agree n rows.now row.now }
+    ensures { result ≡ leads V.agree n rows.now row.now }
 {
     match row {
         Some(vote) => count(rows, vote) >= n,
@@ -142,7 +142,7 @@ fn row_leads<V: Vote>(rows: &[Option<V>], n: usize, row: &Option<V>) -> bool
 
 /// The first row with which at least `n` rows agree.
 fn first_leading<V: Vote + Copy>(rows: &[Option<V>], n: usize) -> Option<V>
-    ensures { result ≡ leading_of agree n rows.now }
+    ensures { result ≡ leading_of V.agree n rows.now }
 {
     for row in rows {
         if row_leads(rows, n, row) {
@@ -164,8 +164,8 @@ fn append(out: &mut [u16], listed: usize, replica: usize)
 /// Fills the memory with the lowest boxes that agree with the vote, rising.
 fn list<V: Vote>(rows: &[Option<V>], vote: &V, out: &mut [u16])
     requires few { length rows.now ≤ most_boxes }
-    requires enough { length out.old ≤ count_of agree vote.now rows.now }
-    ensures { out.new ≡ take (length out.old) (voters_of agree vote.now rows.now) }
+    requires enough { length out.old ≤ count_of V.agree vote.now rows.now }
+    ensures { out.new ≡ take (length out.old) (voters_of V.agree vote.now rows.now) }
 {
     let mut listed = 0;
     for replica in 0..rows.len() {
@@ -186,7 +186,7 @@ pub fn each_in_its_row<V: Vote>()
 
 /// Of 3f+1 rows, no two votes that disagree have 2f+1 each, whatever their kind.
 pub fn one_quorum<V: Vote>()
-    ensures { OneQuorum agree }
+    ensures { OneQuorum V.agree }
 {}
 
 #[cfg(test)]

@@ -15,7 +15,7 @@ push_reserved-requires c =
 pub invariant_of-self : goal.invariant_of-self
 invariant_of-self c =
     let left = row_left c.args.self.now.limit c.args.party c.args.text.now (vec_items c.args.self.now.rows) c.if-not-may_stamp.ensures in
-    (omega arith, (omega (arith, left.0, c.args.self.now.rows.ok.0), (c.args.self.now.few, tt)))
+    record { reserved = omega arith; room = omega (arith, left.0, c.args.self.now.rows.ok.0); few = c.args.self.now.few }
 
 pub returns : goal.returns
 returns c =
