@@ -1,6 +1,6 @@
 #!/usr/bin/env python3
 """Speed of the digests: the program, the same algorithm in plain C at -O3, and python's hashlib (OpenSSL), in one run.
-Run `rt check pit` first, then `python3 bench/digests.py`. Prints nanoseconds and ratios; it is no test and sets no limit."""
+Run `rt run` in crates/pit first, then `python3 bench/digests.py`. Prints nanoseconds and ratios; it is no test and sets no limit."""
 import hashlib
 import hmac
 import os
@@ -10,7 +10,7 @@ import tempfile
 import time
 
 HERE = os.path.dirname(os.path.abspath(__file__))
-PIT = sys.argv[1] if len(sys.argv) > 1 else os.path.join(HERE, "..", "target", "bin", "pit")
+PIT = sys.argv[1] if len(sys.argv) > 1 else os.path.join(HERE, "..", "crates", "pit", "out", "pit")
 TURNS = 5
 
 

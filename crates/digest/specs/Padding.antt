@@ -1,5 +1,5 @@
 -- How a padded message is put together block by block. Only the contracts of private functions speak of this.
-use Rattle.std.specs.Prelude.{◌≡◌, ℕ, ◌+◌, ◌-◌, ◌<◌, ◌≤◌, Bool, cond, List, length, nat_lt, slice_index}
+use Rattle.std.specs.Prelude.{◌≡◌, ℕ, ◌+◌, ◌-◌, ◌<◌, cond, List, length, nat_lt, slice_index}
 use Rattle.digest.specs.Sha256.{zeros_after}
 
 -- the length of a message of n bytes with its padding

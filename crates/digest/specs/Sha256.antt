@@ -1,6 +1,6 @@
 -- SHA-256 as FIPS 180-4 has it: sections 2.2.2 and 3.2 (words), 4.1.2 (functions), 4.2.2 (constants), 5.1.1 (padding), 5.2.1 (blocks), 5.3.3 (initial hash value), 6.2 (the hash).
 -- A byte is a number below 2 ^ 8 and a word is one below 2 ^ 32.
-use Rattle.std.specs.Prelude.{ℕ, zero, suc, ◌+◌, ◌-◌, ◌*◌, ◌/◌, ◌%◌, ◌^◌, cond, List, [], ◌∷◌, ◌++◌, length, take, drop, replicate, bit_and, bit_or, bit_xor, nat_lt, slice_index, slice_index_or}
+use Rattle.std.specs.Prelude.{ℕ, zero, suc, ◌+◌, ◌-◌, ◌*◌, ◌/◌, ◌%◌, ◌^◌, cond, List, [], ◌∷◌, ◌++◌, length, take, drop, replicate, bit_and, bit_or, bit_xor, nat_lt, slice_index}
 use Rattle.digest.specs.declared.hash.Words.{Words}
 
 infixl 60 ◌⊞◌
@@ -65,7 +65,7 @@ word block t = slice_index block (4 * t) * 2 ^ 24 + slice_index block (4 * t + 1
 
 -- W t, by the words W 0 to W (t - 1) before it
 abbrev pub next_W : List ℕ → List ℕ → ℕ → ℕ
-next_W block W t = cond (nat_lt t 16) (word block t) (σ₁ (slice_index W (t - 2)) ⊞ slice_index_or W (t - 7) 0 ⊞ σ₀ (slice_index W (t - 15)) ⊞ slice_index_or W (t - 16) 0)
+next_W block W t = cond (nat_lt t 16) (word block t) (σ₁ (slice_index W (t - 2)) ⊞ slice_index W (t - 7) ⊞ σ₀ (slice_index W (t - 15)) ⊞ slice_index W (t - 16))
 
 -- the first t words of the message schedule
 unfoldable pub message_schedule : List ℕ → ℕ → List ℕ

@@ -1,11 +1,11 @@
 -- One voucher after another, and a CERT's own text in the memory that is made for it.
-use Rattle.std.proofs.Common.{◌≡◌, ℕ, suc, ◌+◌, ◌-◌, ◌<◌, ◌≤◌, Bool, true, false, cond, leb, ◌⊎◌, List, [], ◌∷◌, ◌++◌, length, take, drop, sym, refl, ap, ◌∙◌, subst, inl, inr, ⊎_elim, arith}
+use Rattle.std.proofs.Common.{◌≡◌, ℕ, suc, ◌+◌, ◌-◌, ◌<◌, ◌≤◌, Bool, true, false, cond, List, [], ◌∷◌, ◌++◌, length, take, drop, sym, refl, ap, ◌∙◌, ⊎_elim, arith}
 use Rattle.std.proofs.lemmas.List.{take_at}
 use Rattle.std.proofs.lemmas.Bool.{le-leb, cases_Bool}
 use Rattle.fault.specs.Verdict.{Verdict, good, bad, check}
 use Rattle.hear.specs.Vouchers.{Voucher, admitted, entry_vouchers, answer_vouchers}
 use Rattle.line.proofs.Lengths.{cert_text_long}
-use Rattle.line.proofs.Verdicts.{check_good, good_same, then_goes}
+use Rattle.line.proofs.Verdicts.{check_good, good_same}
 use Rattle.line.specs.CertLine as cert
 use Rattle.line.specs.Rules.{◌then◌, written, memory_after}
 use Rattle.seal.specs.Meaning.{Meaning, Discerning}

@@ -1,6 +1,6 @@
 -- What is known of a CALL that the lead heard: a tablet sent it, and its parts have their widths.
-use Rattle.std.proofs.Common.{◌≡◌, ℕ, true, leb, List, sym, refl, ap, ◌∙◌, subst, arith}
-use Rattle.fault.specs.Verdict.{Verdict, good, bad, check, after}
+use Rattle.std.proofs.Common.{◌≡◌, ℕ, true, leb, List, ap, ◌∙◌, subst, arith}
+use Rattle.fault.specs.Verdict.{Verdict, good, bad, after}
 use Rattle.hear.specs.Vouchers.{heard, admitted, vouchers}
 use Rattle.line.proofs.Good.{call_good, call_fields_shaped}
 use Rattle.line.proofs.Outer.{after_good, line_good}

@@ -1,5 +1,5 @@
 -- What holds of a lead and of all ORDERs that it sent, kept by every take.
-use Rattle.std.proofs.Common.{◌≡◌, ℕ, ◌+◌, ◌-◌, ◌<◌, ◌≤◌, true, eqb, ltb, leb, ◌⊎◌, List, [], ◌∷◌, ◌++◌, length, get_or, set, replicate, sym, refl, ap, ◌∙◌, subst, inl, inr, ⊎_elim, arith}
+use Rattle.std.proofs.Common.{◌≡◌, ℕ, ◌+◌, ◌-◌, ◌<◌, ◌≤◌, true, leb, ◌⊎◌, List, [], ◌∷◌, ◌++◌, length, get_or, set, sym, refl, ap, ◌∙◌, subst, inl, inr, ⊎_elim, arith}
 use Rattle.std.proofs.lemmas.List.{get_or-replicate, get_or-set_other, get_or-set_same, length-set}
 use Rattle.std.proofs.lemmas.Bool.{and_parts, cases_eq, leb-true, ltb-true}
 use Rattle.line.proofs.Numbers.{number_bytes}
@@ -10,10 +10,10 @@ use Rattle.line.specs.Rules.{in_numbers}
 use Rattle.line.specs.SetUp.{is_client, lead_of}
 use Rattle.line.specs.declared.pit.Pit.{Pit}
 use Rattle.step.specs.Histories.{link, no_history}
-use Rattle.lead.proofs.Takes.{Known, Repeats, Gives, Outcome, idle, again, fresh, taken}
+use Rattle.lead.proofs.Takes.{Known, Outcome, idle, again, fresh, taken}
 use Rattle.lead.specs.Leading.{client_of, holding, new_lead, next_row, no_row, order_of, row_of}
 use Rattle.lead.specs.Runs.{Agree, Among, Gapless, Linked, Taking, last_place, lead_after, lead_next, orders, sent}
-use Rattle.lead.specs.declared.Assignment.TheVariants.{Repeat, Fresh}
+use Rattle.lead.specs.declared.Assignment.TheVariants.{Fresh}
 use Rattle.lead.specs.declared.Lead.{Lead}
 use Rattle.lead.specs.declared.Row.{Row}
 

@@ -1,7 +1,7 @@
 -- What a take comes to: nothing, an ORDER sent again, or the next place given.
-use Rattle.std.proofs.Common.{◌≡◌, ℕ, ◌<◌, Bool, true, false, cond, not, ◌&&◌, eqb, ltb, leb, ◌⊎◌, List, [], ◌∷◌, ◌++◌, length, Ok, Err, Result, sym, refl, ap, ◌∙◌, subst, inl, inr, ⊎_elim, arith}
+use Rattle.std.proofs.Common.{◌≡◌, ℕ, ◌<◌, Bool, true, false, cond, not, ◌&&◌, eqb, ltb, leb, ◌⊎◌, List, [], ◌∷◌, ◌++◌, Ok, Err, Result, sym, refl, ap, ◌∙◌, subst, inl, inr, ⊎_elim, arith}
 use Rattle.fault.specs.declared.Fault.{Fault}
-use Rattle.fault.specs.Verdict.{Verdict, good, bad, check, after}
+use Rattle.fault.specs.Verdict.{Verdict, good, bad, after}
 use Rattle.line.proofs.Good.{call_good}
 use Rattle.line.proofs.Verdicts.{check_good, good_same}
 use Rattle.line.specs.CallLine as call
@@ -9,15 +9,15 @@ use Rattle.line.specs.OrderLine as order
 use Rattle.line.specs.Rules.{in_numbers, last_number}
 use Rattle.line.specs.SetUp.{is_client, lead_of}
 use Rattle.line.specs.declared.pit.Pit.{Pit}
-use Rattle.seal.specs.Meaning.{Meaning, may_stamp}
+use Rattle.seal.specs.Meaning.{may_stamp}
 use Rattle.std.proofs.lemmas.Slice.Eq.{bytes_eq-Decides}
-use Rattle.std.proofs.lemmas.Bool.{and_parts, cases_Bool, eqb-true, leb-false, le-leb}
+use Rattle.std.proofs.lemmas.Bool.{eqb-true, leb-false, le-leb}
 use Rattle.std.specs.Str.{bytes_eq}
 use Rattle.std.proofs.lemmas.List.{append-nil}
 use Rattle.step.specs.Outbox.{over_front}
 use Rattle.step.specs.Calls.{Decision, refuse, settle, send, given, World, Carried}
 use Rattle.lead.proofs.Heard.{hears_reads}
-use Rattle.lead.specs.Leading.{assigned, hears, holding, lead_acts, lead_takes, next_row, order_of, outdated, placed, row_in, row_of}
+use Rattle.lead.specs.Leading.{assigned, hears, holding, lead_acts, next_row, order_of, outdated, placed, row_in, row_of}
 use Rattle.lead.specs.Runs.{Stepped, Taking, Wrote, decided, left_by, lead_next, order_for, sent, sent_if_stamped, taking}
 use Rattle.lead.specs.declared.Assignment.{Assignment}
 use Rattle.lead.specs.declared.Assignment.TheVariants.{Repeat, Fresh}

@@ -1,9 +1,8 @@
 -- What the lead does with a CALL.
-use Rattle.std.specs.Prelude.{ℕ, ◌+◌, ◌-◌, Bool, true, false, not, ◌&&◌, List, [], set, replicate, ◌==◌, nat_le, nat_lt, slice_index_or, slice_set}
+use Rattle.std.specs.Prelude.{ℕ, ◌+◌, ◌-◌, Bool, true, false, not, ◌&&◌, List, [], replicate, ◌==◌, nat_le, nat_lt, slice_index_or, slice_set}
 use Rattle.fault.specs.Verdict.{Verdict, good, bad, check, after}
 use Rattle.hear.specs.Vouchers.{heard}
 use Rattle.line.specs.CallLine as call
-use Rattle.line.specs.ChargeLine as charge
 use Rattle.line.specs.Lines as lines
 use Rattle.line.specs.Lines.{called, ordered, answered, certified, marked, printed, charged}
 use Rattle.line.specs.OrderLine as order

@@ -1,15 +1,15 @@
 -- What a line that reads tells: it says what its bytes say, it passed its rules, and its parts have their widths.
-use Rattle.std.proofs.Common.{◌≡◌, ℕ, ◌+◌, ◌*◌, ◌<◌, ◌≤◌, Bool, true, ◌&&◌, eqb, leb, List, length, take, drop, sym, refl, ap, ◌∙◌, subst, arith, length-drop}
+use Rattle.std.proofs.Common.{◌≡◌, ℕ, ◌+◌, ◌*◌, ◌≤◌, true, eqb, List, length, drop, sym, ap, ◌∙◌, arith, length-drop}
 use Rattle.std.proofs.lemmas.List.{length-take-le}
-use Rattle.std.proofs.lemmas.Bool.{and_from, and_parts, eq-eqb, eqb-true, le-leb}
-use Rattle.fault.specs.Verdict.{Verdict, good}
+use Rattle.std.proofs.lemmas.Bool.{and_from, eq-eqb, le-leb}
+use Rattle.fault.specs.Verdict.{good}
 use Rattle.line.proofs.Verdicts.{Entered, Passed, entered_good, passed_good, then_good, good_same}
 use Rattle.line.specs.AnswerLine as answer
 use Rattle.line.specs.CallLine as call
 use Rattle.line.specs.CertLine as cert
 use Rattle.line.specs.ChargeLine as charge
 use Rattle.line.specs.CommittedLine as committed
-use Rattle.line.specs.Layout.{part, number_at}
+use Rattle.line.specs.Layout.{part}
 use Rattle.line.specs.OrderLine as order
 use Rattle.line.specs.Rules.{◌then◌}
 use Rattle.line.specs.SetUp.{quorum_of}

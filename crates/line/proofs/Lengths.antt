@@ -1,5 +1,5 @@
 -- How long the texts and lines of records are whose parts have their widths.
-use Rattle.std.proofs.Common.{◌≡◌, ℕ, ◌+◌, true, eqb, ◌++◌, length, refl, ◌∙◌, arith, length-append}
+use Rattle.std.proofs.Common.{◌≡◌, true, eqb, ◌++◌, length, ◌∙◌, arith, length-append}
 use Rattle.std.proofs.lemmas.Bool.{and_parts, eqb-true}
 use Rattle.line.specs.AnswerLine as answer
 use Rattle.line.specs.CallLine as call

@@ -1,7 +1,7 @@
 -- What a line of any kind that reads tells.
-use Rattle.std.proofs.Common.{◌≡◌, ℕ, ◌+◌, ◌*◌, ◌<◌, ◌≤◌, Bool, true, false, cond, eqb, leb, ◌⊎◌, List, [], ◌∷◌, length, get_or, Some, None, Option, sym, refl, ap, ◌∙◌, subst, inl, inr, ⊎_elim, arith}
+use Rattle.std.proofs.Common.{◌≡◌, ℕ, ◌+◌, ◌*◌, ◌<◌, ◌≤◌, true, cond, eqb, leb, List, [], ◌∷◌, length, get_or, Some, None, Option, sym, refl, ap, ◌∙◌, subst, ⊎_elim, arith}
 use Rattle.std.proofs.lemmas.Bool.{and_parts, eqb-true, leb-true, cases_Bool}
-use Rattle.fault.specs.Verdict.{Verdict, good, bad, check, after}
+use Rattle.fault.specs.Verdict.{Verdict, good, bad, after}
 use Rattle.line.proofs.Good as GoodOf
 use Rattle.line.proofs.Numbers.{part_2}
 use Rattle.line.proofs.Verdicts.{check_good, good_same}

@@ -1,7 +1,7 @@
 -- The entries of a CERT, one after another.
-use Rattle.std.proofs.Common.{◌≡◌, ℕ, suc, ◌+◌, ◌-◌, ◌*◌, ◌<◌, ◌≤◌, List, ◌∷◌, drop, sym, refl, ap, ◌∙◌, arith}
+use Rattle.std.proofs.Common.{◌≡◌, ℕ, suc, ◌+◌, ◌-◌, ◌*◌, ◌<◌, List, ◌∷◌, drop, ap, ◌∙◌, arith}
 use Rattle.std.proofs.lemmas.List.{drop-drop}
-use Rattle.line.specs.CertLine.{voters, entry_size}
+use Rattle.line.specs.CertLine.{voters}
 use Rattle.line.specs.Layout.{number_at}
 
 -- what is left after i entries begins with entry i

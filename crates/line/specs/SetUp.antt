@@ -1,5 +1,5 @@
 -- A pit: how many boxes it has, who leads, and which parties there are.
-use Rattle.std.specs.Prelude.{ℕ, ◌+◌, ◌-◌, ◌*◌, ◌%◌, Bool, ◌&&◌, ◌==◌, nat_le, nat_lt}
+use Rattle.std.specs.Prelude.{ℕ, ◌+◌, ◌*◌, ◌%◌, Bool, ◌&&◌, ◌==◌, nat_le, nat_lt}
 use Rattle.fault.specs.Verdict.{Verdict, good, check}
 use Rattle.line.specs.declared.pit.Pit.{Pit}
 

@@ -1,6 +1,6 @@
 //! A line of any kind, and its reading.
 ghost use Rattle.fault.specs.Verdict.{verdict};
-ghost use Rattle.line.specs.Lines.{read as ReadOf, line_shown, shaped, size, line};
+ghost use Rattle.line.specs.Lines.{read as read_of, line_shown, shaped, size, line};
 ghost use Rattle.line.specs.Rules.{outcome, written, memory_after};
 ghost use Rattle.std.specs.Prelude.{◌≡◌};
 
@@ -48,7 +48,7 @@ impl Line<'_> {
 
 /// Reads any bytes as a line of this pit, of a kind that is taken. Tags are not looked at.
 pub fn read<'a>(pit: &Pit, taken: &Kinds, bytes: &'a [u8]) -> Result<Line<'a>, Fault>
-    ensures { outcome line_shown result ≡ ReadOf pit.now taken.now bytes.now }
+    ensures { outcome line_shown result ≡ read_of pit.now taken.now bytes.now }
 {
     match taken.kind_of(bytes)? {
         Kind::Call => Ok(Line::Call(call::read(pit, 0, bytes)?)),

@@ -1,12 +1,11 @@
 -- What reads is whole, and passes; by kind, and for a line of any kind.
-use Rattle.std.proofs.Common.{◌≡◌, ℕ, ◌+◌, ◌*◌, ◌<◌, ◌≤◌, Bool, true, ◌&&◌, eqb, List, [], ◌∷◌, ◌++◌, length, get_or, take, drop, sym, refl, ap, ◌∙◌, subst, arith}
-use Rattle.std.proofs.lemmas.List.{append_assoc}
-use Rattle.std.proofs.lemmas.Bool.{eqb-true, and_from, eq-eqb}
-use Rattle.fault.specs.Verdict.{Verdict, good}
+use Rattle.std.proofs.Common.{◌≡◌, ℕ, ◌+◌, Bool, true, ◌&&◌, eqb, List, ◌∙◌, subst}
+use Rattle.std.proofs.lemmas.Bool.{and_from, eq-eqb}
+use Rattle.fault.specs.Verdict.{good}
 use Rattle.line.proofs.Good as GoodOf
 use Rattle.line.proofs.Good.{part_long}
-use Rattle.line.proofs.Outer.{LineGood, line_good, after_good, told_size, cert_ranges}
-use Rattle.line.proofs.Verdicts.{Entered, good_same}
+use Rattle.line.proofs.Outer.{line_good, after_good, told_size, cert_ranges}
+use Rattle.line.proofs.Verdicts.{good_same}
 use Rattle.line.specs.AnswerLine as answer
 use Rattle.line.specs.CallLine as call
 use Rattle.line.specs.CertLine as cert
@@ -17,16 +16,14 @@ use Rattle.line.specs.Lines as lines
 use Rattle.line.specs.Lines.{called, ordered, answered, certified, marked, printed, charged}
 use Rattle.line.specs.OrderLine as order
 use Rattle.line.specs.Rules.{whole}
-use Rattle.line.specs.SetUp.{quorum_of}
 use Rattle.line.specs.SheetLine as sheet
 use Rattle.line.specs.declared.kind.Kind.{Kind}
 use Rattle.line.specs.declared.kind.Kind.TheVariants.{Call, Order, Answer, Cert, Committed, Sheet, Charge}
 use Rattle.line.specs.declared.kind.Kinds.{Kinds}
 use Rattle.line.specs.declared.pit.Pit.{Pit}
-use Rattle.line.specs.Layout.{part, number_at, bytes_of, header}
+use Rattle.line.specs.Layout.{part, number_at}
 use Rattle.line_laws.specs.Laws.{Bytes}
-use Rattle.line_laws.proofs.Pieces.{join, last, bytes_part, bytes_known, bytes_cut}
-use Rattle.line.proofs.Outer.{line_shaped, told_small}
+use Rattle.line.proofs.Outer.{told_small}
 use Rattle.line_laws.proofs.Wholes.{call_whole, order_whole, answer_whole, cert_whole, committed_whole, sheet_whole, charge_whole}
 use Rattle.line_laws.specs.Passing.{passes, call_passes, order_passes, answer_passes, cert_passes, committed_passes, sheet_passes, charge_passes}
 

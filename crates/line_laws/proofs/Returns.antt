@@ -11,16 +11,13 @@ use Rattle.line.specs.CallLine as call
 use Rattle.line.specs.CertLine as cert
 use Rattle.line.specs.ChargeLine as charge
 use Rattle.line.specs.CommittedLine as committed
-use Rattle.line.specs.Kinds.{kind_number, outer_kind}
 use Rattle.line.specs.Layout.{part, number_at, bytes_of}
 use Rattle.line.specs.Lines as lines
 use Rattle.line.specs.Lines.{called, ordered, answered, certified, marked, printed, charged}
 use Rattle.line.specs.OrderLine as order
 use Rattle.line.specs.Rules.{◌then◌, whole, entered, sized, ruled, in_numbers, in_clients}
-use Rattle.line.specs.SetUp.{is_client, is_replica, is_lead, quorum_of}
+use Rattle.line.specs.SetUp.{is_client, is_replica, is_lead}
 use Rattle.line.specs.SheetLine as sheet
-use Rattle.line.specs.declared.kind.Kind.{Kind}
-use Rattle.line.specs.declared.kind.Kind.TheVariants.{Call, Order, Answer, Cert, Committed, Sheet, Charge}
 use Rattle.line.specs.declared.pit.Pit.{Pit}
 use Rattle.line_laws.proofs.Says.{call_says, order_says, answer_says, cert_says, committed_says, sheet_says, charge_says, order_holds, charge_holds_first, charge_holds_second}
 use Rattle.line_laws.specs.Laws.{Held, everything, retagged}

@@ -1,29 +1,17 @@
 -- What a line written from a record says is the record.
-use Rattle.std.proofs.Common.{◌≡◌, ℕ, ◌+◌, ◌*◌, ◌%◌, ◌^◌, ◌<◌, ◌≤◌, Bool, true, ◌&&◌, eqb, ltb, leb, List, [], ◌∷◌, ◌++◌, length, get_or, take, drop, sym, refl, ap, ◌∙◌, subst, arith}
-use Rattle.std.proofs.lemmas.List.{append_assoc, take_at, drop_at, drop-drop, take_all}
-use Rattle.std.proofs.lemmas.Bool.{eqb-true, and_parts, and_from, eq-eqb, le-leb, leb-true, ltb-true}
-use Rattle.fault.specs.Verdict.{Verdict, good}
-use Rattle.line.proofs.Good as GoodOf
-use Rattle.line.proofs.Good.{part_long}
-use Rattle.line.proofs.Outer.{LineGood, line_good, after_good, told_size, cert_ranges}
-use Rattle.line.proofs.Verdicts.{Entered, good_same}
+use Rattle.std.proofs.Common.{◌≡◌, ℕ, ◌+◌, ◌*◌, ◌^◌, ◌<◌, true, eqb, leb, List, ◌++◌, length, take, drop, sym, ap, ◌∙◌, arith}
+use Rattle.std.proofs.lemmas.List.{take_at, drop_at, drop-drop, take_all}
+use Rattle.std.proofs.lemmas.Bool.{eqb-true, and_parts}
 use Rattle.line.specs.AnswerLine as answer
 use Rattle.line.specs.CallLine as call
 use Rattle.line.specs.CertLine as cert
 use Rattle.line.specs.ChargeLine as charge
 use Rattle.line.specs.CommittedLine as committed
-use Rattle.line.specs.Kinds.{kind_number}
-use Rattle.line.specs.Lines as lines
-use Rattle.line.specs.Lines.{called, ordered, answered, certified, marked, printed, charged}
 use Rattle.line.specs.OrderLine as order
-use Rattle.line.specs.Rules.{whole}
 use Rattle.line.specs.SetUp.{quorum_of}
 use Rattle.line.specs.SheetLine as sheet
-use Rattle.line.specs.declared.kind.Kind.{Kind}
-use Rattle.line.specs.declared.kind.Kind.TheVariants.{Call, Order, Answer, Cert, Committed, Sheet, Charge}
-use Rattle.line.specs.declared.kind.Kinds.{Kinds}
 use Rattle.line.specs.declared.pit.Pit.{Pit}
-use Rattle.line.specs.Layout.{part, number, number_at, bytes_of, header}
+use Rattle.line.specs.Layout.{part, number, bytes_of, header}
 use Rattle.line.proofs.Lengths.{call_line_long, order_line_long}
 use Rattle.line.proofs.Numbers.{number_bytes}
 use Rattle.line_laws.proofs.Wholes.{row_2, row_3, row_4, row_5, row_7}

@@ -1,8 +1,8 @@
 -- One more of the demonstration keys.
-use Rattle.std.proofs.Common.{◌≡◌, ℕ, ◌+◌, ◌<◌, ◌≢◌, List, [], length, get_or, set, sym, ap, ◌∙◌, subst, arith, get_or-set_other, get_or-set_same, below_more}
+use Rattle.std.proofs.Common.{◌≡◌, ℕ, ◌+◌, ◌<◌, ◌≢◌, List, [], length, get_or, set, ap, ◌∙◌, arith, get_or-set_other, get_or-set_same, below_more}
 use Rattle.digest.specs.Answers.{sha256_verdict}
 use Rattle.digest.specs.Sha256.{sha256_of}
-use Rattle.fault.specs.Verdict.{Verdict, good}
+use Rattle.fault.specs.Verdict.{good}
 use Rattle.seal.specs.Rows.{two_bytes}
 use Rattle.pit.specs.DemonstrationKeys.{DemonstrationKeys, party_at}
 

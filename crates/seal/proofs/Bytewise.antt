@@ -1,6 +1,6 @@
 -- Two lists of bytes compared without leaving early: the differences of all bytes are gathered in one number.
-use Rattle.std.proofs.Common.{◌≡◌, ℕ, ◌+◌, ◌<◌, ◌≤◌, Bool, true, false, eqb, List, [], length, get_or, take, Decides, sym, refl, ap, ◌∙◌, arith}
-use lib.Bits.{bit_or, bit_xor, bit_and, or_add_and, xor_add_and, and_le_l, and_le_r, xor_self}
+use Rattle.std.proofs.Common.{◌≡◌, ℕ, ◌+◌, ◌<◌, eqb, List, length, get_or, take, sym, refl, ap, ◌∙◌, arith}
+use lib.Bits.{bit_or, bit_xor, or_add_and, xor_add_and, and_le_l, and_le_r, xor_self}
 use Rattle.std.proofs.lemmas.Slice.Eq.{bytes_eq-Decides}
 use Rattle.std.proofs.lemmas.List.{same_from_push, take_all, take_more, take_more_same}
 use Rattle.std.proofs.lemmas.Bool.Decides.{Decides-eqb, Decides-like, same_from_decides}

@@ -1,9 +1,9 @@
 -- Sequences of requests for stamps: what a seal accepts after them.
-use Rattle.std.proofs.Common.{◌≡◌, ℕ, Bool, true, false, ◌||◌, leb, ◌⊎◌, List, [], ◌∷◌, length, Ok, Err, Result, sym, refl, ap, ◌∙◌, subst, inl, inr, ⊎_elim, arith}
+use Rattle.std.proofs.Common.{◌≡◌, ℕ, Bool, true, leb, ◌⊎◌, List, [], ◌∷◌, length, Ok, Err, Result, sym, ap, ◌∙◌, subst, inl, inr, ⊎_elim, arith}
 use Rattle.fault.specs.declared.Fault.{Fault}
 use Rattle.std.proofs.lemmas.Bool.{and_parts, false≢true, or_cases, or_left, or_right}
 use Rattle.seal.specs.Meaning.{Meaning, Stamping, longest_text, ready_for, same_triple, some_left}
-use Rattle.seal.specs.Promises.{AcceptedStays, Led, OnlyStampsAreNew, OwnStampsCheck, RegisterAcceptsTheStamped, Request, StampedIn, StampsForItsParties}
+use Rattle.seal.specs.Promises.{AcceptedStays, OnlyStampsAreNew, OwnStampsCheck, RegisterAcceptsTheStamped, StampsForItsParties}
 use Rattle.seal.specs.Rows.{register_meaning}
 use Rattle.seal.specs.Triples.{same_self, same_triples}
 

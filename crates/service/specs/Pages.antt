@@ -4,7 +4,7 @@ use Rattle.std.proofs.Math.Nat.{div-add-mod, div-div-eq-div-mul}
 use Rattle.std.proofs.Common.{mod-eq_of_lt, arith, ap, sym, ◌∙◌}
 use Rattle.std.proofs.lemmas.List.{append_assoc, drop_at, drop-drop, flat_map_more, take_all, take_at, take_more, length-take-le}
 use Rattle.service.specs.Bodies.{fields_of}
-use Rattle.service.specs.Ledgers.{Within, ledger, ledger_rule, page_of, piles_of, pile}
+use Rattle.service.specs.Ledgers.{Within, ledger, ledger_rule, page_of, piles_of}
 use Rattle.service.specs.Meaning.{answered, over_at, over_front, performed}
 use Rattle.service.specs.Numbers.{four, four_bytes}
 use Rattle.service.specs.Replies.{reply_bytes}

@@ -1,9 +1,8 @@
 -- A stamp that was given and written is a delivery.
-use Rattle.std.proofs.Common.{◌≡◌, ℕ, ◌+◌, Bool, true, leb, List, ◌++◌, length, Ok, MatchBool, sym, refl, ap, ◌∙◌, subst, arith}
-use Rattle.fault.specs.declared.Fault.{Fault}
+use Rattle.std.proofs.Common.{◌≡◌, ℕ, ◌+◌, Bool, true, List, ◌++◌, length, Ok, MatchBool, sym, refl, subst, arith}
 use Rattle.seal.specs.Meaning.{Meaning, Given, tag_size}
 use Rattle.std.proofs.lemmas.List.{length-append}
-use Rattle.step.specs.Calls.{World, Written, Refused, Carried, send}
+use Rattle.step.specs.Calls.{World, Refused, Carried, send}
 use Rattle.step.specs.Deliveries.{Delivery, fits}
 use Rattle.step.specs.Outbox.{over_front}
 

@@ -1,5 +1,5 @@
 -- What every call of a machine does: it decides, and then it carries the decision out.
-use Rattle.std.specs.Prelude.{◌≡◌, ℕ, ◌+◌, Bool, true, false, List, ◌++◌, length, Ok, Err, Result}
+use Rattle.std.specs.Prelude.{◌≡◌, ℕ, Bool, true, false, List, ◌++◌, length, Ok, Err, Result}
 use Rattle.fault.specs.declared.Fault.{Fault}
 use Rattle.fault.specs.Verdict.{Verdict, good, bad, verdict}
 use Rattle.seal.specs.Meaning.{Meaning, may_stamp, stamped, tag_size}

@@ -1,5 +1,5 @@
 -- Rows of votes, one for each box, and how they are counted. A kind of vote is told by its agreement.
-use Rattle.std.specs.Prelude.{◌≡◌, ℕ, suc, ◌+◌, ◌*◌, ◌<◌, ◌≤◌, Bool, true, false, cond, not, ◌&&◌, List, [], ◌∷◌, ◌++◌, length, take, drop, set, replicate, is_some, Some, None, count_by, Option, nat_eq, nat_le, nat_lt, slice_index_or, slice_set}
+use Rattle.std.specs.Prelude.{◌≡◌, ℕ, suc, ◌+◌, ◌*◌, ◌<◌, ◌≤◌, Bool, true, false, cond, not, ◌&&◌, List, [], ◌∷◌, ◌++◌, length, take, drop, replicate, is_some, Some, None, count_by, Option, nat_eq, nat_le, nat_lt, slice_index_or, slice_set}
 use Rattle.fault.specs.Verdict.{Verdict, good, check}
 use Rattle.line.specs.CertLine.{rising}
 

@@ -1,4 +1,4 @@
-use Rattle.std.proofs.Common.{ℕ, ◌-◌, ◌*◌, List, subst₂, arith}
+use Rattle.std.proofs.Common.{ℕ, ◌*◌, List, subst₂, arith}
 use Rattle.digest.specs.Padding.{Overlaid}
 use Rattle.digest.proofs.Blocks.{assembled}
 use Rattle.digest.proofs.hash.padded_block.Goals as goal

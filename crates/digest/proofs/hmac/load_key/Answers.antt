@@ -1,4 +1,4 @@
-use Rattle.std.proofs.Common.{◌≡◌, true, false, leb, length, ap, ◌∙◌}
+use Rattle.std.proofs.Common.{◌≡◌, true, false, leb, length, ap}
 use Rattle.std.proofs.lemmas.List.{append-nil}
 use Rattle.std.proofs.lemmas.Bool.{le-leb, lt-leb}
 use Rattle.digest.specs.Hmac.{key_block}

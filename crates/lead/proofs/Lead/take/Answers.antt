@@ -1,5 +1,5 @@
-use Rattle.std.proofs.Common.{◌≡◌, true, eqb, length, sym}
-use Rattle.line.specs.CallLine.{shown, shaped, text_shaped}
+use Rattle.std.proofs.Common.{length, sym}
+use Rattle.line.specs.CallLine.{shown, text_shaped}
 use Rattle.std.proofs.lemmas.Bool.{and_parts}
 use Rattle.lead.proofs.Heard.{hears_client, hears_shaped}
 use Rattle.lead.proofs.Lead.take.Goals as goal

@@ -1,7 +1,7 @@
 -- Four puts, one after another.
-use Rattle.std.proofs.Common.{sym, ◌∙◌}
+use Rattle.std.proofs.Common.{◌∙◌}
 use Rattle.std.proofs.lemmas.List.{append_assoc}
-use Rattle.line.proofs.Puts.{Wrote, wrote_none, put_next, length_bytes_of}
+use Rattle.line.proofs.Puts.{wrote_none, put_next, length_bytes_of}
 use Rattle.line.proofs.layout.put_header.Goals as goal
 
 pub returns : goal.returns

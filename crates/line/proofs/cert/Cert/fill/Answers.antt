@@ -1,5 +1,5 @@
 -- The parts of the text, put one after another.
-use Rattle.std.proofs.Common.{◌≡◌, ◌++◌, drop, ap, ◌∙◌}
+use Rattle.std.proofs.Common.{◌++◌, drop, ap, ◌∙◌}
 use Rattle.std.proofs.lemmas.Bool.{and_parts, eqb-true}
 use Rattle.line.proofs.Puts.{wrote_header, put_next, wrote_all, length_bytes_of, in_a_row}
 use Rattle.line.specs.CertLine.{shown, text, entries_size, size_of}

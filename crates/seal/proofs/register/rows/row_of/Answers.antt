@@ -1,4 +1,4 @@
-use Rattle.std.proofs.Common.{refl, ap, ◌∙◌}
+use Rattle.std.proofs.Common.{ap, ◌∙◌}
 use Rattle.seal.proofs.Writing.{three_writes, written}
 use Rattle.seal.proofs.register.rows.row_of.Goals as goal
 

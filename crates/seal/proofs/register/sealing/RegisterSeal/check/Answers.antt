@@ -1,4 +1,4 @@
-use Rattle.std.proofs.Common.{vec_items, sym, ◌∙◌, arith, rules}
+use Rattle.std.proofs.Common.{vec_items, ◌∙◌, arith}
 use Rattle.std.proofs.lemmas.Bool.{le-ltb}
 use Rattle.seal.specs.Told.{at_row, other_length, past_rows}
 use Rattle.seal.proofs.register.sealing.RegisterSeal.check.Goals as goal
