@@ -14,5 +14,5 @@ sha256_two_verdict first second = check (nat_le (length first + length second) 1
 
 -- a work block of 64 bytes, a key of at most 131 and a text of at most 300
 abbrev pub hmac_verdict : List ℕ → List ℕ → ℕ → Verdict (List ℕ)
-hmac_verdict key text work-length =
-    check (work-length == 64) 2 0 (check (nat_le (length key) 131) 2 0 (check (nat_le (length text) 300) 2 0 (good (hmac_sha256_of key text))))
+hmac_verdict key text work_length =
+    check (work_length == 64) 2 0 (check (nat_le (length key) 131) 2 0 (check (nat_le (length text) 300) 2 0 (good (hmac_sha256_of key text))))

@@ -21,7 +21,7 @@ check_passes false n o w e = absurd (good_not_bad (tt {0}) n o e)
 -- at a test that failed
 pub check_stops : {A : Type 0} (b : Bool) (n o k p : ℕ) (w : Verdict A) → bad k p ≡ check b n o (good (tt {0})) → bad k p ≡ check b n o w
 check_stops true n o k p w e = absurd (good_not_bad (tt {0}) k p (sym e))
-check_stops false n o k p w e = let k-is : k ≡ n = cc in let p-is : p ≡ o = cc in rw (k-is, p-is)
+check_stops false n o k p w e = let k_is : k ≡ n = cc in let p_is : p ≡ o = cc in rw (k_is, p_is)
 
 check_then : {A B : Type 0} (b : Bool) (n o : ℕ) (v : Verdict A) (w : Verdict B) → check b n o (v then w) ≡ (check b n o v then w)
 check_then true n o v w = refl

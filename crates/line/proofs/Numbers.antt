@@ -1,6 +1,6 @@
 -- Numbers and their bytes, and parts of a line.
 use Rattle.std.proofs.Common.{◌≡◌, ℕ, zero, suc, ◌+◌, ◌*◌, ◌/◌, ◌%◌, ◌^◌, ◌<◌, ◌≤◌, List, [], ◌∷◌, length, get_or, refl, ap, ◌∙◌, pow-suc, arith}
-use Rattle.std.specs.List.{AllByRecursion as All}
+use Rattle.std.specs.List.{AllByRecursion}
 use Rattle.std.proofs.lemmas.List.{drop_more}
 use Rattle.line.specs.Layout.{part, number, bytes_of}
 
@@ -12,7 +12,7 @@ pub high_part : (b n : ℕ) → b < 256 → (b + 256 * n) / 256 ≡ n
 high_part b n h = omega arith
 
 -- the bytes of the number that bytes write are those bytes
-pub bytes_number : (bs : List ℕ) → All (λ b. b < 256) bs → bytes_of (length bs) (number bs) ≡ bs
+pub bytes_number : (bs : List ℕ) → AllByRecursion (λ b. b < 256) bs → bytes_of (length bs) (number bs) ≡ bs
 unfolding bytes_of
 bytes_number [] h = refl
 bytes_number (b ∷ bs) (h, hs) =

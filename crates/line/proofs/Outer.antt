@@ -31,7 +31,7 @@ named_number : (n : ℕ) (ks : List Kind) (k : Kind) → first_named n ks ≡ So
 named_number n [] k e = let z : ◌≡◌ {A = ℕ} 0 1 = cc in absurd (omega arith)
 named_number n (x ∷ xs) k e =
     ⊎_elim
-    (λ same. let x-is : Some x ≡ Some k = ap (λ b. cond b (Some x) (first_named n xs)) (sym same) ∙ e in
+    (λ same. let x_is : Some x ≡ Some k = ap (λ b. cond b (Some x) (first_named n xs)) (sym same) ∙ e in
     let x_is' : x ≡ k = cc in eqb-true n (kind_number x) same ∙ ap kind_number x_is')
     (λ other. named_number n xs k (ap (λ b. cond b (Some x) (first_named n xs)) (sym other) ∙ e))
     (cases_Bool (eqb n (kind_number x)))

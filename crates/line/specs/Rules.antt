@@ -33,8 +33,8 @@ sized size at bytes = check (length bytes == size) 5 at (good tt)
 
 -- 6, 7, 8: the pit's view, a sender who may send this, every field in its range
 abbrev pub ruled : Pit → ℕ → ℕ → Bool → Bool → Verdict (Unit {0})
-ruled pit at view sender-may in_range =
-    check (view == pit.view) 6 at (check sender-may 7 at (check in_range 8 at (good tt)))
+ruled pit at view sender_may in_range =
+    check (view == pit.view) 6 at (check sender_may 7 at (check in_range 8 at (good tt)))
 
 -- places and stamps go from 1 to this
 abbrev pub last_number : ℕ

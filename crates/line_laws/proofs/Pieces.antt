@@ -1,7 +1,7 @@
 -- Bytes cut into parts and joined again.
 use Rattle.std.proofs.Common.{◌≡◌, ℕ, ◌+◌, ◌<◌, ◌≤◌, List, ◌++◌, length, drop, sym, ap, ◌∙◌, ⊎_elim, arith, length-drop, length-take}
 use Rattle.std.proofs.lemmas.Bool.{cases_lt}
-use Rattle.std.specs.List.{AllByRecursion as All}
+use Rattle.std.specs.List.{AllByRecursion}
 use Rattle.std.proofs.ByRecursion.{All-from_get_or, All-take, All-drop}
 use Rattle.std.proofs.lemmas.List.{take-append-drop, drop-drop, take_all, get_or-take, get_or-drop, get_or_past}
 use Rattle.line.proofs.Good.{part_long}
@@ -9,7 +9,7 @@ use Rattle.line.proofs.Numbers.{bytes_number}
 use Rattle.line_laws.specs.Laws.{Bytes}
 use Rattle.line.specs.Layout.{part, number_at, bytes_of}
 
-pub all_bytes : (bs : List ℕ) → Bytes bs → All (λ b. b < 256) bs
+pub all_bytes : (bs : List ℕ) → Bytes bs → AllByRecursion (λ b. b < 256) bs
 all_bytes bs h = All-from_get_or (λ b. b < 256) bs 0 (λ i _. h i)
 
 -- a part and what follows it

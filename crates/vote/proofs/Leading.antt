@@ -26,16 +26,16 @@ module _ {V : Type 0} (agree : V → V → Bool) (n : ℕ) where
   past_front : (all rows : List (Option V)) (row : Option V) → leads agree n all row ≡ false → (box : ℕ)
       → ((lower : ℕ) → lower < box → leads agree n all (get_or rows lower None) ≡ false)
       → (lower : ℕ) → lower < suc box → leads agree n all (get_or (row ∷ rows) lower None) ≡ false
-  past_front all rows row not-it box before zero below = not-it
-  past_front all rows row not-it box before (suc lower) below = before lower (omega arith)
+  past_front all rows row not_it box before zero below = not_it
+  past_front all rows row not_it box before (suc lower) below = before lower (omega arith)
 
   none_in : (all rows : List (Option V)) (row : Option V) → leads agree n all row ≡ false → Low all rows None → Low all (row ∷ rows) None
-  none_in all rows row not-it before zero = not-it
-  none_in all rows row not-it before (suc box) = before box
+  none_in all rows row not_it before zero = not_it
+  none_in all rows row not_it before (suc box) = before box
 
   shift : (all rows : List (Option V)) (row found : Option V) → leads agree n all row ≡ false → Low all rows found → Low all (row ∷ rows) found
-  shift all rows row None not-it low = none_in all rows row not-it low
-  shift all rows row (Some v) not-it low = (suc low.0, low.1, low.2, past_front all rows row not-it low.0 low.3)
+  shift all rows row None not_it low = none_in all rows row not_it low
+  shift all rows row (Some v) not_it low = (suc low.0, low.1, low.2, past_front all rows row not_it low.0 low.3)
 
   first_lowest : (all rows : List (Option V)) → Low all rows (first_leading agree n all rows)
   first_lowest all [] = λ box. refl
