@@ -4,7 +4,7 @@ pub mod Opening
 pub mod Parties
 pub mod Promises
 pub mod Rows
--- Lemmas, nothing to be believed: the proofs of a trait's laws may name files of specs/ alone.
+-- Lemmas, nothing to be believed: the proof of a trait's law may name the crate's specs/ and not its proofs/.
 pub mod CardTags
 pub mod Triples
 pub mod Told

@@ -6,7 +6,7 @@ pub mod Meaning
 pub mod Numbers
 pub mod Replies
 pub mod Rules
--- Lemmas, nothing to be believed: the proofs of a trait's laws may name files of specs/ alone.
+-- Lemmas, nothing to be believed: the proof of a trait's law may name the crate's specs/ and not its proofs/.
 pub mod BoardSteps
 pub mod Guards
 pub mod LedgerSteps
