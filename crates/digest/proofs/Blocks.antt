@@ -1,4 +1,5 @@
 -- The blocks of a padded message, byte by byte.
+use Rattle.std.proofs.lemmas.Grind.{common_steps}
 use Rattle.std.proofs.Common.{◌≡◌, ℕ, ◌+◌, ◌-◌, ◌*◌, ◌<◌, ◌≤◌, List, [], ◌∷◌, ◌++◌, length, get_or, take, drop, replicate, sym, refl, ap, ◌∙◌, ⊎_elim, add-one, arith}
 use Rattle.std.proofs.lemmas.List.{append_assoc, length-append, length-replicate, length-take-le, length-drop, get_or_append_left, get_or-append_right, get_or-replicate, get_or_past, get_or-take, get_or-drop, take-append-le, drop-append-le, drop_at, drop-drop, ext_get_or}
 use Rattle.std.proofs.lemmas.Bool.{lt-ltb, le-ltb, cases_lt}
@@ -89,8 +90,7 @@ in_front xs ys a within = ap (take 64) (drop-append-le a xs ys (omega arith)) �
 -- a block that lies whole in the first part, or in the second, as the code cuts it out
 pub block_in_first : (f s : List ℕ) (i n : ℕ) → n ≡ 64 → 64 * i + 64 ≤ length f → take n (drop (64 * i) f) ≡ nth_block (padded (f ++ s)) i
 unfolding padded
-block_in_first f s i n whole within =
-    ap (λ (k : ℕ). take k (drop (64 * i) f)) whole ∙ sym (in_front (f ++ s) _ (64 * i) (simp length-append (omega arith)) ∙ in_front f s (64 * i) within)
+block_in_first f s i n whole within = grind (arith, common_steps, in_front, length-append)
 
 pub block_in_second : (f s : List ℕ) (i n : ℕ) → n ≡ 64 → length f ≤ 64 * i → 64 * i + 64 ≤ length f + length s → take n (drop (64 * i - length f) s) ≡ nth_block (padded (f ++ s)) i
 unfolding padded

@@ -207,6 +207,7 @@ impl Words {
     }
 
     /// The hash value after block `i` of the padded message. A block that lies whole in one part is read where it is.
+    #[tactic(auto, using(crate::proofs::Blocks::block_in_first, crate::proofs::Blocks::block_in_second))]
     fn absorb(self, first: &[u8], second: &[u8], i: usize) -> Words
         requires { (length first.now + length second.now ≤ 1000000) × (64 * i + 64 ≤ padded_length (length first.now + length second.now)) }
         ensures { result ≡ compress self (nth_block (padded (first.now ++ second.now)) i) }

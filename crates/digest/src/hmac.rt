@@ -1,8 +1,7 @@
 //! HMAC-SHA-256 as RFC 2104 has it, over a work block that the caller lends and that ends as zeros.
 ghost use Rattle.std.specs.Prelude.{◌≡◌, ◌-◌, ◌≤◌, ◌++◌, length, replicate};
-ghost use Rattle.digest.specs.Answers.{hmac_verdict};
+ghost use Rattle.digest.specs.Answers.{hmac_answer};
 ghost use Rattle.digest.specs.Hmac.{key_block, masked, hmac_sha256_of};
-ghost use Rattle.fault.specs.Verdict.{verdict};
 
 use crate::hash::{BLOCK_LEN, digest};
 use fault::{Fault, Reason};
@@ -31,7 +30,7 @@ impl Drop for Wiped<'_> {
 
 /// HMAC-SHA-256 of a text under a key. Whatever it answers, `work` ends as zeros.
 pub fn hmac_sha256(key: &[u8], text: &[u8], work: &mut [u8]) -> Result<[u8; 32], Fault>
-    ensures answer { verdict result ≡ hmac_verdict key.now text.now (length work.old) }
+    ensures answer { result ≡ hmac_answer key.now text.now (length work.old) }
     ensures wiped { work.new ≡ replicate (length work.old) 0 }
 {
     let guard = Wiped { block: work };

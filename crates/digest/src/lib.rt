@@ -2,9 +2,8 @@
 
 #![tactic(auto)]
 
-ghost use Rattle.digest.specs.Answers.{sha256_two_verdict, sha256_verdict};
+ghost use Rattle.digest.specs.Answers.{sha256_two_answer, sha256_answer};
 ghost use Rattle.digest.specs.Examples.{HmacExamples, Sha256Examples};
-ghost use Rattle.fault.specs.Verdict.{verdict};
 ghost use Rattle.std.specs.Prelude.{◌≡◌};
 
 use fault::{Fault, Reason};
@@ -18,7 +17,7 @@ const MAX_INPUT: usize = 1_000_000;
 
 /// SHA-256 of a message.
 pub fn sha256(input: &[u8]) -> Result<[u8; 32], Fault>
-    ensures { verdict result ≡ sha256_verdict input.now }
+    ensures { result ≡ sha256_answer input.now }
 {
     if input.len() > MAX_INPUT {
         return Err(Fault::of(Reason::Room));
@@ -28,12 +27,9 @@ pub fn sha256(input: &[u8]) -> Result<[u8; 32], Fault>
 
 /// SHA-256 of the message that is `first` followed by `second`.
 pub fn sha256_two(first: &[u8], second: &[u8]) -> Result<[u8; 32], Fault>
-    ensures { verdict result ≡ sha256_two_verdict first.now second.now }
+    ensures { result ≡ sha256_two_answer first.now second.now }
 {
-    if first.len() > MAX_INPUT {
-        return Err(Fault::of(Reason::Room));
-    }
-    if second.len() > MAX_INPUT - first.len() {
+    if first.len() > MAX_INPUT || second.len() > MAX_INPUT - first.len() {
         return Err(Fault::of(Reason::Room));
     }
     Ok(hash::digest(first, second))

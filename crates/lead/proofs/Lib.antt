@@ -1,3 +1,3 @@
-pub mod Heard
+pub mod Hearing
 pub mod Ordered
 pub mod Takes

@@ -1,9 +1,11 @@
 -- What holds of a lead and of all ORDERs that it sent, kept by every take.
+use Rattle.std.proofs.lemmas.Grind.{common_steps}
 use Rattle.std.proofs.Common.{◌≡◌, ℕ, ◌+◌, ◌-◌, ◌<◌, ◌≤◌, true, leb, ◌⊎◌, List, [], ◌∷◌, ◌++◌, length, get_or, set, sym, refl, ap, ◌∙◌, subst, inl, inr, ⊎_elim, arith}
 use Rattle.std.proofs.lemmas.List.{get_or-replicate, get_or-set_other, get_or-set_same, length-set}
 use Rattle.std.proofs.lemmas.Bool.{and_parts, cases_eq, leb-true, ltb-true}
-use Rattle.line.proofs.Numbers.{number_bytes}
+use Rattle.line.specs.Bytes.{number_bytes}
 use Rattle.line.specs.CallLine as call
+use Rattle.line.specs.Forms as forms
 use Rattle.line.specs.Layout.{bytes_of, number_at}
 use Rattle.line.specs.OrderLine as order
 use Rattle.line.specs.Rules.{in_numbers}
@@ -31,7 +33,7 @@ Sent (o ∷ os) k = (untagged o ≡ k) ⊎ Sent os k
 
 -- a tag is no part of the text, and the text tells tablet and stamp
 bare_text : (m : call.Model) → call.text (bare m) ≡ call.text m
-unfolding call.text
+unfolding forms.text
 bare_text m = refl
 
 client_bounds : (n : ℕ) → is_client n ≡ true → (256 ≤ n) × (n < 272)
@@ -41,11 +43,11 @@ number_bounds : (n : ℕ) → in_numbers n ≡ true → (1 ≤ n) × (n ≤ 1000
 number_bounds n h = let p = and_parts (leb 1 n) _ h in (leb-true 1 n p.0, leb-true n 1000000 p.1)
 
 text_sender : (m : call.Model) → is_client m.sender ≡ true → number_at 2 4 (call.text m) ≡ m.sender
-unfolding call.text bytes_of
+unfolding forms.text bytes_of
 text_sender m h = let b = client_bounds m.sender h in number_bytes 2 m.sender (omega (arith, b.1))
 
 text_stamp : (m : call.Model) → in_numbers m.stamp ≡ true → number_at 4 10 (call.text m) ≡ m.stamp
-unfolding call.text bytes_of
+unfolding forms.text bytes_of
 text_stamp m h = let b = number_bounds m.stamp h in number_bytes 4 m.stamp (omega (arith, b.1))
 
 -- a tablet's row, and the ORDER that it keeps
@@ -67,14 +69,7 @@ kept pit party row = record {
 
 kept_is : (pit : Pit) (m : call.Model) (row : Row) → m.view ≡ pit.view → m.stamp ≡ row.stamp → m.body ≡ row.body
     → kept pit m.sender row ≡ untagged (order_of pit m row)
-kept_is pit m row v s b = λ i. record {
-  sender = lead_of pit;
-  view = pit.view;
-  place = row.place;
-  history = row.history;
-  call = record { sender = m.sender; view = sym v i; stamp = sym s i; body = sym b i; tag = [] };
-  tag = [];
-}
+kept_is pit m row v s b = grind (arith, common_steps)
 
 -- what one ORDER sent has to do with the lead
 record Fits (lead : Lead) (k : order.Model) : Type 0 where
@@ -272,7 +267,7 @@ place_rises lead after out (fresh g) = inr (ap (λ (x : Lead). x.place) g.holds)
 
 next_place : (pit : Pit) (ts : List Taking) (t : Taking) → (last_place pit (t ∷ ts) ≡ last_place pit ts) ⊎ (last_place pit (t ∷ ts) ≡ last_place pit ts + 1)
 unfolding lead_after
-next_place pit ts t = place_rises (lead_after pit ts) (lead_next (lead_after pit ts) t) (sent (lead_after pit ts) t) (taken (lead_after pit ts) t)
+next_place pit ts t = grind (arith, common_steps, place_rises, taken)
 
 pub gapless : (pit : Pit) (ts : List Taking) → Gapless pit ts
 gapless pit ts = record {

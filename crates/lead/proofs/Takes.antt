@@ -1,9 +1,11 @@
 -- What a take comes to: nothing, an ORDER sent again, or the next place given.
 use Rattle.std.proofs.Common.{◌≡◌, ℕ, ◌<◌, Bool, true, false, cond, not, ◌&&◌, eqb, ltb, leb, ◌⊎◌, List, [], ◌∷◌, ◌++◌, Ok, Err, Result, sym, refl, ap, ◌∙◌, subst, inl, inr, ⊎_elim, arith}
+use Rattle.fault.specs.Checks.{◌>>=◌}
 use Rattle.fault.specs.declared.Fault.{Fault}
-use Rattle.fault.specs.Verdict.{Verdict, good, bad, after}
-use Rattle.line.proofs.Good.{call_good}
-use Rattle.line.proofs.Verdicts.{check_good, good_same}
+use Rattle.fault.specs.declared.Reason.TheVariants.{Stamp, Full}
+use Rattle.line.specs.FormsKept.{reads}
+use Rattle.line.specs.Shows.{call_shows}
+use Rattle.line.specs.Tests.{check_ok, ok_same}
 use Rattle.line.specs.CallLine as call
 use Rattle.line.specs.OrderLine as order
 use Rattle.line.specs.Rules.{in_numbers, last_number}
@@ -15,10 +17,11 @@ use Rattle.std.proofs.lemmas.Bool.{eqb-true, leb-false, le-leb}
 use Rattle.std.specs.Str.{bytes_eq}
 use Rattle.std.proofs.lemmas.List.{append-nil}
 use Rattle.step.specs.Outbox.{over_front}
-use Rattle.step.specs.Calls.{Decision, refuse, settle, send, given, World, Carried}
-use Rattle.lead.proofs.Heard.{hears_reads}
+use Rattle.step.specs.Calls.{Decision, settle, send, World, Carried}
+use Rattle.lead.proofs.Hearing.{hears_reads}
+use Rattle.step.specs.Steps.{left_by}
 use Rattle.lead.specs.Leading.{assigned, hears, holding, lead_acts, next_row, order_of, outdated, placed, row_in, row_of}
-use Rattle.lead.specs.Runs.{Stepped, Taking, Wrote, decided, left_by, lead_next, order_for, sent, sent_if_stamped, taking}
+use Rattle.lead.specs.Runs.{Stepped, Taking, Wrote, decided, lead_next, order_for, sent, sent_if_stamped, taking}
 use Rattle.lead.specs.declared.Assignment.{Assignment}
 use Rattle.lead.specs.declared.Assignment.TheVariants.{Repeat, Fresh}
 use Rattle.lead.specs.declared.Lead.{Lead}
@@ -29,10 +32,10 @@ pub record Known (pit : Pit) (m : call.Model) : Type 0 where
   pub numbered : in_numbers m.stamp ≡ true
   pub viewed : m.view ≡ pit.view
 
-hears_known : (pit : Pit) (t : Taking) (m : call.Model) → hears pit t.seal t.bytes t.room ≡ good m → Known pit m
+hears_known : (pit : Pit) (t : Taking) (m : call.Model) → hears pit t.seal t.bytes t.room ≡ Ok m → Known pit m
 hears_known pit t m e =
-    let g = call_good pit 0 t.bytes m (hears_reads pit t.seal t.bytes t.room m e) in
-    subst (λ (n : call.Model). Known pit n) g.1 (record { client = g.0.sent; numbered = g.0.within; viewed = g.0.viewed })
+    let r = reads call.form call_shows pit 0 t.bytes m (hears_reads pit t.seal t.bytes t.room m e) in
+    subst (λ (n : call.Model). Known pit n) r.says (record { client = r.sent; numbered = r.within; viewed = r.viewed })
 
 -- the call is the last one of its tablet
 pub record Repeats (lead next : Lead) (os : List order.Model) : Type 0 where
@@ -56,10 +59,10 @@ pub data Outcome (lead next : Lead) (os : List order.Model) : Type 0 where
   again : Repeats lead next os → Outcome lead next os
   fresh : Gives lead next os → Outcome lead next os
 
-placed_cases : (b : Bool) (lead : Lead) (m : call.Model) (a : Assignment) → placed b lead m ≡ good a
+placed_cases : (b : Bool) (lead : Lead) (m : call.Model) (a : Assignment) → placed b lead m ≡ Ok a
     → ((b ≡ true) × (a ≡ Repeat (row_of lead m))) ⊎ ((b ≡ false) × (a ≡ Fresh (next_row lead m)))
-placed_cases true lead m a e = inl (refl, sym (good_same _ _ e))
-placed_cases false lead m a e = inr (refl, sym (good_same _ _ (check_good (ltb lead.place last_number) 17 0 (good (Fresh (next_row lead m))) a e).1))
+placed_cases true lead m a e = inl (refl, sym (ok_same _ _ e))
+placed_cases false lead m a e = inr (refl, sym (ok_same _ _ (check_ok (ltb lead.place last_number) Full 0 (Ok (Fresh (next_row lead m))) a e).1))
 
 -- a call that is not outdated has the last stamp and body, or a newer stamp
 last_body : (le same b : Bool) → le ≡ true → same ≡ true → not (le && not (same && b)) ≡ true → b ≡ true
@@ -76,21 +79,21 @@ module _ (lead : Lead) (t : Taking) where
   stamped_or_not true next o out = out
   stamped_or_not false next o out = idle refl refl
 
-  ResultOf : call.Model → Verdict Assignment → Type 0
+  ResultOf : call.Model → Result Assignment Fault → Type 0
   ResultOf m w = Outcome lead
-      (left_by t.seal (lead_of lead.pit) lead (given w (λ a. send (holding lead m a) (order.text (order_of lead.pit m (row_in a))) [])))
-      (sent_if_stamped t.seal (lead_of lead.pit) (after w (λ a. good (order_of lead.pit m (row_in a)))))
+      (left_by t.seal (lead_of lead.pit) lead (w >>= (λ a. Ok (send (holding lead m a) (order.text (order_of lead.pit m (row_in a))) []))))
+      (sent_if_stamped t.seal (lead_of lead.pit) (w >>= (λ a. Ok (order_of lead.pit m (row_in a)))))
 
-  given_one : (m : call.Model) (a : Assignment) → Outcome lead (holding lead m a) (order_of lead.pit m (row_in a) ∷ []) → ResultOf m (good a)
+  given_one : (m : call.Model) (a : Assignment) → Outcome lead (holding lead m a) (order_of lead.pit m (row_in a) ∷ []) → ResultOf m (Ok a)
   unfolding ResultOf
   given_one m a out = stamped_or_not (may_stamp t.seal (lead_of lead.pit) (order.text (order_of lead.pit m (row_in a)))) _ _ out
 
-  on_call : (m : call.Model) → Known lead.pit m → (w : Verdict Assignment) → assigned lead m ≡ w → ResultOf m w
+  on_call : (m : call.Model) → Known lead.pit m → (w : Result Assignment Fault) → assigned lead m ≡ w → ResultOf m w
   unfolding ResultOf
-  on_call m k (bad n o) e = idle refl refl
-  on_call m k (good a) e =
+  on_call m k (Err f) e = idle refl refl
+  on_call m k (Ok a) e =
       let row = row_of lead m in
-      let passed = check_good (not (outdated row m)) 15 0 (placed (eqb m.stamp row.stamp) lead m) a e in
+      let passed = check_ok (not (outdated row m)) Stamp 0 (placed (eqb m.stamp row.stamp) lead m) a e in
       ⊎_elim
       (λ last. let same : m.stamp ≡ row.stamp = eqb-true _ _ last.0 in
       given_one m a (subst (λ x. Outcome lead (holding lead m x) (order_of lead.pit m (row_in x) ∷ [])) (sym last.1)
@@ -114,51 +117,51 @@ module _ (lead : Lead) (t : Taking) where
       }))))
       (placed_cases (eqb m.stamp row.stamp) lead m a passed.1)
 
-  on_bytes : (v : Verdict call.Model) → hears lead.pit t.seal t.bytes t.room ≡ v → Outcome lead
-      (left_by t.seal (lead_of lead.pit) lead (given v (lead_acts lead)))
-      (sent_if_stamped t.seal (lead_of lead.pit) (after v (λ m. after (assigned lead m) (λ a. good (order_of lead.pit m (row_in a))))))
+  on_bytes : (v : Result call.Model Fault) → hears lead.pit t.seal t.bytes t.room ≡ v → Outcome lead
+      (left_by t.seal (lead_of lead.pit) lead (v >>= (lead_acts lead)))
+      (sent_if_stamped t.seal (lead_of lead.pit) (v >>= (λ m. assigned lead m >>= (λ a. Ok (order_of lead.pit m (row_in a))))))
   unfolding ResultOf
-  on_bytes (bad n o) e = idle refl refl
-  on_bytes (good m) e = on_call m (hears_known lead.pit t m e) (assigned lead m) refl
+  on_bytes (Err f) e = idle refl refl
+  on_bytes (Ok m) e = on_call m (hears_known lead.pit t m e) (assigned lead m) refl
 
   pub taken : Outcome lead (lead_next lead t) (sent lead t)
   unfolding lead_next sent
   taken = on_bytes (hears lead.pit t.seal t.bytes t.room) refl
 
 -- a decision to send goes with the ORDER whose text it sends, and a refusal with that refusal
-Says : Decision Lead → Verdict order.Model → Type 0
-Says (refuse number offset) v = v ≡ bad number offset
-Says (settle next) v = ⊥
-Says (send next text rest) v = (o : order.Model) × (v ≡ good o) × (text ≡ order.text o) × (rest ≡ [])
+Says : Decision Lead → Result order.Model Fault → Type 0
+Says (Err fault) v = v ≡ Err fault
+Says (Ok (settle next)) v = ⊥
+Says (Ok (send next text rest)) v = (o : order.Model) × (v ≡ Ok o) × (text ≡ order.text o) × (rest ≡ [])
 
 says : (lead : Lead) (t : Taking) → Says (decided lead t) (order_for lead t)
 unfolding Says
 says lead t = on_heard (hears lead.pit t.seal t.bytes t.room)
   where
-    on_assigned : (m : call.Model) (w : Verdict Assignment)
-        → Says (given w (λ a. send (holding lead m a) (order.text (order_of lead.pit m (row_in a))) [])) (after w (λ a. good (order_of lead.pit m (row_in a))))
-    on_assigned m (bad n o) = refl
-    on_assigned m (good a) = (order_of lead.pit m (row_in a), refl, refl, refl)
+    on_assigned : (m : call.Model) (w : Result Assignment Fault)
+        → Says (w >>= (λ a. Ok (send (holding lead m a) (order.text (order_of lead.pit m (row_in a))) []))) (w >>= (λ a. Ok (order_of lead.pit m (row_in a))))
+    on_assigned m (Err f) = refl
+    on_assigned m (Ok a) = (order_of lead.pit m (row_in a), refl, refl, refl)
 
-    on_heard : (v : Verdict call.Model) → Says (given v (lead_acts lead)) (after v (λ m. after (assigned lead m) (λ a. good (order_of lead.pit m (row_in a)))))
-    on_heard (bad n o) = refl
-    on_heard (good m) = on_assigned m (assigned lead m)
+    on_heard : (v : Result call.Model Fault) → Says (v >>= (lead_acts lead)) (v >>= (λ m. assigned lead m >>= (λ a. Ok (order_of lead.pit m (row_in a)))))
+    on_heard (Err f) = refl
+    on_heard (Ok m) = on_assigned m (assigned lead m)
 
 -- what a decision leaves, and what it sends, is what its being carried out leaves and writes
 leaves : (d : Decision Lead) (party : ℕ) (before after : World Lead) (r : Result ℕ Fault) → Carried party d before after r
     → after.state ≡ left_by before.seal party before.state d
-leaves (refuse n o) party before after r h = ap (λ (w : World Lead). w.state) h.1
-leaves (settle next) party before after r h = ap (λ (w : World Lead). w.state) h.1
-leaves (send next text rest) party before after (Ok count) h = h.holds ∙ rw h.allowed
-leaves (send next text rest) party before after (Err fault) h = ap (λ (w : World Lead). w.state) h.1.1 ∙ rw h.0
+leaves (Err f) party before after r h = ap (λ (w : World Lead). w.state) h.1
+leaves (Ok (settle next)) party before after r h = ap (λ (w : World Lead). w.state) h.1
+leaves (Ok (send next text rest)) party before after (Ok count) h = h.holds ∙ rw h.allowed
+leaves (Ok (send next text rest)) party before after (Err fault) h = ap (λ (w : World Lead). w.state) h.1.1 ∙ rw h.0
 
-writes : (d : Decision Lead) (v : Verdict order.Model) (party : ℕ) (before after : World Lead) (r : Result ℕ Fault) → Says d v → Carried party d before after r
+writes : (d : Decision Lead) (v : Result order.Model Fault) (party : ℕ) (before after : World Lead) (r : Result ℕ Fault) → Says d v → Carried party d before after r
     → Wrote (sent_if_stamped before.seal party v) before.out after.out
 unfolding Says
-writes (refuse n o) v party before after r said h =
+writes (Err f) v party before after r said h =
     subst (λ x. Wrote (sent_if_stamped before.seal party x) before.out after.out) (sym said) (ap (λ (w : World Lead). w.out) h.1)
-writes (settle next) v party before after r said h = absurd said
-writes (send next text rest) v party before after (Ok count) said h =
+writes (Ok (settle next)) v party before after r said h = absurd said
+writes (Ok (send next text rest)) v party before after (Ok count) said h =
     let o = said.0 in
     let stamps : may_stamp before.seal party (order.text o) ≡ true = subst (λ x. may_stamp before.seal party x ≡ true) said.2 h.allowed in
     let out : after.out ≡ over_front (order.text o ++ h.tag) before.out =
@@ -166,7 +169,7 @@ writes (send next text rest) v party before after (Ok count) said h =
     ∙ ap (λ x. over_front (order.text o ++ x) before.out) (ap (λ x. h.tag ++ x) said.3 ∙ append-nil h.tag)) in
     subst (λ x. Wrote (sent_if_stamped before.seal party x) before.out after.out) (sym said.1)
     (subst (λ b. Wrote (cond b (o ∷ []) []) before.out after.out) (sym stamps) (h.tag, h.tag_fits, out))
-writes (send next text rest) v party before after (Err fault) said h =
+writes (Ok (send next text rest)) v party before after (Err fault) said h =
     let o = said.0 in
     let none : may_stamp before.seal party (order.text o) ≡ false = subst (λ x. may_stamp before.seal party x ≡ false) said.2 h.0 in
     subst (λ x. Wrote (sent_if_stamped before.seal party x) before.out after.out) (sym said.1)

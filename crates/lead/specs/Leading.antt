@@ -1,6 +1,8 @@
 -- What the lead does with a CALL.
-use Rattle.std.specs.Prelude.{ℕ, ◌+◌, ◌-◌, Bool, true, false, not, ◌&&◌, List, [], replicate, ◌==◌, nat_le, nat_lt, slice_index_or, slice_set}
-use Rattle.fault.specs.Verdict.{Verdict, good, bad, check, after}
+use Rattle.std.specs.Prelude.{ℕ, ◌+◌, ◌-◌, Bool, true, false, not, ◌&&◌, List, [], replicate, ◌==◌, nat_le, nat_lt, slice_index_or, slice_set, Ok, Result}
+use Rattle.fault.specs.Checks.{check, refused, ◌>>=◌, ◌>>◌}
+use Rattle.fault.specs.declared.Fault.{Fault}
+use Rattle.fault.specs.declared.Reason.TheVariants.{SetUp, Room, Kind, Stamp, Full}
 use Rattle.hear.specs.Vouchers.{heard}
 use Rattle.line.specs.CallLine as call
 use Rattle.line.specs.Lines as lines
@@ -12,7 +14,7 @@ use Rattle.line.specs.declared.kind.Kinds.{Kinds}
 use Rattle.line.specs.declared.pit.Pit.{Pit}
 use Rattle.seal.specs.Meaning.{Meaning}
 use Rattle.std.specs.Str.{bytes_eq}
-use Rattle.step.specs.Calls.{Decision, send, given}
+use Rattle.step.specs.Calls.{Decision, send}
 use Rattle.step.specs.Histories.{link, no_history}
 use Rattle.step.specs.Outbox.{least_room}
 use Rattle.lead.specs.declared.Assignment.{Assignment}
@@ -28,27 +30,33 @@ no_row = record { stamp = 0; place = 0; history = no_history; body = replicate 1
 abbrev pub new_lead : Pit → Lead
 new_lead pit = record { pit = pit; place = 0; history = no_history; rows = replicate clients no_row }
 
--- opening: the pit is set up, and the number is that of its lead
-abbrev pub lead_opened : ℕ → ℕ → ℕ → Verdict Lead
-lead_opened f view number = after (opened f view) (λ pit. check (is_lead pit number) 1 0 (good (new_lead pit)))
+-- opening: 1 unless the pit can be set up and the number is that of its lead
+abbrev pub lead_opened : ℕ → ℕ → ℕ → Result Lead Fault
+lead_opened f view number = do
+  pit ← opened f view
+  check (is_lead pit number) SetUp 0
+  Ok (new_lead pit)
 
 -- the lead takes CALLs alone
 abbrev pub calls_only : Kinds
 calls_only = record { call = true; order = false; answer = false; cert = false; committed = false; sheet = false; charge = false }
 
--- a line that is a CALL
-abbrev pub as_call : lines.Model → Verdict call.Model
-as_call (called m) = good m
-as_call (ordered m) = bad 4 0
-as_call (answered m) = bad 4 0
-as_call (certified m) = bad 4 0
-as_call (marked m) = bad 4 0
-as_call (printed m) = bad 4 0
-as_call (charged m) = bad 4 0
+-- 4 for a line that is no CALL
+abbrev pub as_call : lines.Model → Result call.Model Fault
+as_call (called m) = Ok m
+as_call (ordered m) = refused Kind 0
+as_call (answered m) = refused Kind 0
+as_call (certified m) = refused Kind 0
+as_call (marked m) = refused Kind 0
+as_call (printed m) = refused Kind 0
+as_call (charged m) = refused Kind 0
 
--- the CALL that the bytes are: the outbox has its least room, then checks 3 to 9
-abbrev pub hears : Pit → Meaning → List ℕ → ℕ → Verdict call.Model
-hears pit seal bytes room = check (nat_le least_room room) 2 0 (after (heard pit calls_only seal bytes) as_call)
+-- the CALL that the bytes are: 2 unless the outbox has its least room, then checks 3 to 9
+abbrev pub hears : Pit → Meaning → List ℕ → ℕ → Result call.Model Fault
+hears pit seal bytes room = do
+  check (nat_le least_room room) Room 0
+  m ← heard pit calls_only seal bytes
+  as_call m
 
 -- the tablet that a CALL is from, and the row that the lead keeps of it
 abbrev pub client_of : call.Model → ℕ
@@ -65,14 +73,16 @@ outdated row m = nat_le m.stamp row.stamp && not (m.stamp == row.stamp && bytes_
 abbrev pub next_row : Lead → call.Model → Row
 next_row lead m = record { stamp = m.stamp; place = lead.place + 1; history = link lead.history (call.text m); body = m.body }
 
--- a repeated call keeps its place; a new one gets the next, as long as there is one
-abbrev pub placed : Bool → Lead → call.Model → Verdict Assignment
-placed true lead m = good (Repeat (row_of lead m))
-placed false lead m = check (nat_lt lead.place last_number) 17 0 (good (Fresh (next_row lead m)))
+-- a repeated call keeps its place; a new one gets the next, or 17 where there is none
+abbrev pub placed : Bool → Lead → call.Model → Result Assignment Fault
+placed true lead m = Ok (Repeat (row_of lead m))
+placed false lead m = check (nat_lt lead.place last_number) Full 0 >> Ok (Fresh (next_row lead m))
 
 -- 15, then 17 for a new call
-abbrev pub assigned : Lead → call.Model → Verdict Assignment
-assigned lead m = check (not (outdated (row_of lead m) m)) 15 0 (placed (m.stamp == (row_of lead m).stamp) lead m)
+abbrev pub assigned : Lead → call.Model → Result Assignment Fault
+assigned lead m = do
+  check (not (outdated (row_of lead m) m)) Stamp 0
+  placed (m.stamp == (row_of lead m).stamp) lead m
 
 -- the row that the call has
 abbrev pub row_in : Assignment → Row
@@ -90,8 +100,12 @@ order_of pit m row = record { sender = lead_of pit; view = pit.view; place = row
 
 -- what the lead does with a CALL that it heard
 abbrev pub lead_acts : Lead → call.Model → Decision Lead
-lead_acts lead m = given (assigned lead m) (λ a. send (holding lead m a) (order.text (order_of lead.pit m (row_in a))) [])
+lead_acts lead m = do
+  a ← assigned lead m
+  Ok (send (holding lead m a) (order.text (order_of lead.pit m (row_in a))) [])
 
 -- what the lead does with any bytes
 abbrev pub lead_takes : Lead → Meaning → List ℕ → ℕ → Decision Lead
-lead_takes lead seal bytes room = given (hears lead.pit seal bytes room) (lead_acts lead)
+lead_takes lead seal bytes room = do
+  m ← hears lead.pit seal bytes room
+  lead_acts lead m

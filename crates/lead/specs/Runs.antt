@@ -1,15 +1,16 @@
 -- Every run of a lead, from its opening on: what it then holds, which ORDERs it sent, and what these keep to.
-use Rattle.std.specs.Prelude.{◌≡◌, ℕ, ◌+◌, ◌≤◌, cond, ◌⊎◌, List, [], ◌∷◌, ◌++◌, length, Result}
+use Rattle.std.specs.Prelude.{◌≡◌, ℕ, ◌+◌, ◌≤◌, cond, ◌⊎◌, List, [], ◌∷◌, ◌++◌, length, Result, Ok, Err}
+use Rattle.fault.specs.Checks.{◌>>=◌}
 use Rattle.fault.specs.declared.Fault.{Fault}
-use Rattle.fault.specs.Verdict.{Verdict, good, bad, after}
 use Rattle.line.specs.CallLine as call
 use Rattle.line.specs.OrderLine as order
 use Rattle.line.specs.SetUp.{lead_of}
 use Rattle.line.specs.declared.pit.Pit.{Pit}
 use Rattle.seal.specs.Meaning.{Meaning, may_stamp, tag_size}
-use Rattle.step.specs.Calls.{Decision, refuse, settle, send, World, Carried}
+use Rattle.step.specs.Calls.{Decision, World, Carried}
 use Rattle.step.specs.Histories.{link, no_history}
 use Rattle.step.specs.Outbox.{over_front}
+use Rattle.step.specs.Steps.{left_by}
 use Rattle.lead.specs.Leading.{assigned, hears, lead_takes, new_lead, order_of, row_in}
 use Rattle.lead.specs.declared.Lead.{Lead}
 
@@ -23,21 +24,17 @@ pub record Taking : Type 0 where
 abbrev pub decided : Lead → Taking → Decision Lead
 decided lead t = lead_takes lead t.seal t.bytes t.room
 
--- what is held once a decision is carried out: where the seal does not stamp, all stays as it was
-abbrev pub left_by : Meaning → ℕ → Lead → Decision Lead → Lead
-left_by seal party lead (refuse number offset) = lead
-left_by seal party lead (settle next) = next
-left_by seal party lead (send next text rest) = cond (may_stamp seal party text) next lead
-
 -- the ORDER that the lead decides to send, if any
-abbrev pub order_for : Lead → Taking → Verdict order.Model
-order_for lead t =
-    after (hears lead.pit t.seal t.bytes t.room) (λ m. after (assigned lead m) (λ a. good (order_of lead.pit m (row_in a))))
+abbrev pub order_for : Lead → Taking → Result order.Model Fault
+order_for lead t = do
+  m ← hears lead.pit t.seal t.bytes t.room
+  a ← assigned lead m
+  Ok (order_of lead.pit m (row_in a))
 
 -- it is sent where the seal stamps it
-abbrev pub sent_if_stamped : Meaning → ℕ → Verdict order.Model → List order.Model
-sent_if_stamped seal party (good o) = cond (may_stamp seal party (order.text o)) (o ∷ []) []
-sent_if_stamped seal party (bad number offset) = []
+abbrev pub sent_if_stamped : Meaning → ℕ → Result order.Model Fault → List order.Model
+sent_if_stamped seal party (Ok o) = cond (may_stamp seal party (order.text o)) (o ∷ []) []
+sent_if_stamped seal party (Err fault) = []
 
 -- the lead after a take, and what it sent
 unfoldable pub lead_next : Lead → Taking → Lead

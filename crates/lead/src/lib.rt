@@ -2,26 +2,27 @@
 
 #![tactic(auto)]
 
+mod heard;
 pub mod laws;
 
-ghost use Rattle.std.specs.Prelude.{◌≡◌, ◌<◌, true, length};
-ghost use Rattle.fault.specs.Verdict.{verdict};
-ghost use Rattle.lead.specs.Leading.{assigned, client_of, hears, holding, lead_opened, lead_takes, next_row, order_of, outdated, row_in};
-ghost use Rattle.line.specs.CallLine.{shaped as call_whole, shown as call_shown, text as call_text, text_shaped as call_shaped};
+ghost use Rattle.std.specs.Prelude.{◌≡◌, ◌<◌, length};
+ghost use Rattle.fault.specs.Checks.{result_map};
+ghost use Rattle.lead.specs.Leading.{assigned, hears, holding, lead_opened, lead_takes, next_row, order_of, row_in};
+ghost use Rattle.line.specs.CallLine.{shown as call_shown};
 ghost use Rattle.line.specs.OrderLine.{text as order_text};
-ghost use Rattle.line.specs.Rules.{outcome};
-ghost use Rattle.line.specs.SetUp.{is_client, lead_of};
+ghost use Rattle.line.specs.SetUp.{lead_of};
 ghost use Rattle.step.specs.Calls.{Carried};
-ghost use Rattle.std.specs.Str.{bytes_eq};
 
+use crate::heard::Heard;
 use fault::{Fault, Reason};
 use hear::hear;
 use line::call::Call;
 use line::kind::Kinds;
 use line::lines::Line;
+use line::order;
 use line::order::Order;
-use line::pit::{CLIENTS, FIRST_CLIENT, Pit};
-use line::{call, order};
+use line::pit::{CLIENTS, Pit};
+use line::record::Record;
 use seal::Seal;
 use step::{HISTORY_SIZE, NO_HISTORY, deliver, link, roomy};
 
@@ -64,7 +65,7 @@ const NO_ROW: Row = Row {
 
 /// The row that a call has: its former one, or a new one with the next place.
 #[derive(Clone, Copy)]
-enum Assignment {
+pub enum Assignment {
     Repeat(Row),
     Fresh(Row),
 }
@@ -81,7 +82,7 @@ pub struct Lead {
 impl Lead {
     /// Opens the lead of a pit: the number must be that of the pit's lead.
     pub fn open(f: u8, view: u32, number: u16) -> Result<Lead, Fault>
-        ensures { verdict result ≡ lead_opened f view number }
+        ensures { result ≡ lead_opened f view number }
     {
         let pit = Pit::open(f, view)?;
         if !pit.is_lead(number) {
@@ -116,7 +117,7 @@ impl Lead {
         line: &'a [u8],
         room: usize,
     ) -> Result<Call<'a>, Fault>
-        ensures { outcome call_shown result ≡ hears self.now.pit (S.meaning seal.now) line.now room }
+        ensures { result_map call_shown result ≡ hears self.now.pit (S.meaning seal.now) line.now room }
     {
         if !roomy(room) {
             return Err(Fault::of(Reason::Room));
@@ -126,49 +127,6 @@ impl Lead {
             _ => Err(Fault::of(Reason::Kind)),
         }
     }
-}
-
-/// The tablet's place among the rows.
-fn client_index(call: &Call) -> usize
-    requires { is_client call.now.sender ≡ true }
-    ensures index { result ≡ client_of (call_shown call.now) }
-    ensures below { result < 16 }
-{
-    (call.sender - FIRST_CLIENT) as usize
-}
-
-/// Whether two pieces of memory hold the same bytes.
-fn same(a: &[u8], b: &[u8]) -> bool
-    ensures { result ≡ bytes_eq a.now b.now }
-{
-    a == b
-}
-
-/// A body by itself.
-fn body_of(call: &Call) -> [u8; BODY_SIZE]
-    requires { call_shaped (call_shown call.now) ≡ true }
-    ensures { result ≡ (call_shown call.now).body }
-{
-    let mut body = [0; BODY_SIZE];
-    body.copy_from_slice(call.body);
-    body
-}
-
-/// The bytes of a CALL that are linked.
-fn text_of(call: &Call) -> [u8; call::TAG_AT]
-    requires { call_shaped (call_shown call.now) ≡ true }
-    ensures { result ≡ call_text (call_shown call.now) }
-{
-    let mut text = [0; call::TAG_AT];
-    let _ = call.write_text(&mut text);
-    text
-}
-
-/// Whether a call's stamp is below its tablet's last, or equal with another body.
-fn is_outdated(row: &Row, call: &Call) -> bool
-    ensures { result ≡ outdated row.now (call_shown call.now) }
-{
-    call.stamp <= row.stamp && !(call.stamp == row.stamp && same(call.body, &row.body))
 }
 
 impl Assignment {
@@ -184,49 +142,45 @@ impl Assignment {
 
 impl Lead {
     /// The next place and history, for a new call.
-    fn next_row(&self, call: &Call) -> Row
-        requires shape { call_shaped (call_shown call.now) ≡ true }
-        requires room { self.now.place < 1000000 }
-        ensures { result ≡ next_row self.now (call_shown call.now) }
+    fn next_row(&self, heard: &Heard) -> Row
+        requires { self.now.place < 1000000 }
+        ensures { result ≡ next_row self.now (call_shown heard.now.call) }
     {
         Row {
-            stamp: call.stamp,
+            stamp: heard.call.stamp,
             place: self.place + 1,
-            history: link(&self.history, &text_of(call)),
-            body: body_of(call),
+            history: link(&self.history, &heard.text()),
+            body: heard.body(),
         }
     }
 
     /// The row that a call has: a repeat its former one, a new call one with the next place.
-    fn assign(&self, call: &Call) -> Result<Assignment, Fault>
-        requires sender { is_client call.now.sender ≡ true }
-        requires shape { call_shaped (call_shown call.now) ≡ true }
-        ensures { verdict result ≡ assigned self.now (call_shown call.now) }
+    fn assign(&self, heard: &Heard) -> Result<Assignment, Fault>
+        ensures { result ≡ assigned self.now (call_shown heard.now.call) }
     {
-        let row = self.rows[client_index(call)];
-        if is_outdated(&row, call) {
+        let row = self.rows[heard.client()];
+        if heard.is_outdated(&row) {
             return Err(Fault::of(Reason::Stamp));
         }
-        if call.stamp == row.stamp {
+        if heard.call.stamp == row.stamp {
             return Ok(Assignment::Repeat(row));
         }
         if self.place >= LAST_PLACE {
             return Err(Fault::of(Reason::Full));
         }
-        Ok(Assignment::Fresh(self.next_row(call)))
+        Ok(Assignment::Fresh(self.next_row(heard)))
     }
 
     /// What is stamped of the ORDER that gives a call its row's place.
-    fn order_text<'a>(&self, call: &Call<'a>, row: &'a Row) -> [u8; order::TAG_AT]
-        requires { call_whole (call_shown call.now) ≡ true }
-        ensures { result ≡ order_text (order_of self.now.pit (call_shown call.now) row.now) }
+    fn order_text<'a>(&self, heard: &Heard<'a>, row: &'a Row) -> [u8; order::TAG_AT]
+        ensures { result ≡ order_text (order_of self.now.pit (call_shown heard.now.call) row.now) }
     {
         let order = Order {
             sender: self.pit.lead(),
             view: self.pit.view(),
             place: row.place,
             history: &row.history,
-            call: *call,
+            call: heard.call,
             tag: &[],
         };
         let mut text = [0; order::TAG_AT];
@@ -235,12 +189,11 @@ impl Lead {
     }
 
     /// Keeps what a call was given: a repeat changes nothing.
-    fn keep(&mut self, call: &Call, assignment: Assignment)
-        requires { is_client call.now.sender ≡ true }
-        ensures { self.new ≡ holding self.old (call_shown call.now) assignment }
+    fn keep(&mut self, heard: &Heard, assignment: Assignment)
+        ensures { self.new ≡ holding self.old (call_shown heard.now.call) assignment }
     {
         if let Assignment::Fresh(row) = assignment {
-            let client = client_index(call);
+            let client = heard.client();
             let history = row.history;
             self.rows[client] = row;
             self.history = history;
@@ -258,10 +211,11 @@ impl Lead {
         ensures { Carried (lead_of self.old.pit) (lead_takes self.old (S.meaning seal.old) line.now (length out.old)) (record { state = self.old; seal = S.meaning seal.old; out = out.old }) (record { state = self.new; seal = S.meaning seal.new; out = out.new }) result }
     {
         let call = self.hear_call(seal, line, out.len())?;
-        let assignment = self.assign(&call)?;
-        let text = self.order_text(&call, assignment.row());
+        let heard = Heard { call };
+        let assignment = self.assign(&heard)?;
+        let text = self.order_text(&heard, assignment.row());
         let count = deliver(seal, self.pit.lead(), &text, &[], out)?;
-        self.keep(&call, assignment);
+        self.keep(&heard, assignment);
         Ok(count)
     }
 }

@@ -1,29 +1,7 @@
 -- Numbers and their bytes, and parts of a line.
-use Rattle.std.proofs.Common.{◌≡◌, ℕ, zero, suc, ◌+◌, ◌*◌, ◌/◌, ◌%◌, ◌^◌, ◌<◌, ◌≤◌, List, [], ◌∷◌, length, get_or, refl, ap, ◌∙◌, pow-suc, arith}
-use Rattle.std.specs.List.{AllByRecursion}
+use Rattle.std.proofs.Common.{◌≡◌, ℕ, suc, ◌+◌, ◌<◌, ◌≤◌, List, [], ◌∷◌, length, get_or, ap, ◌∙◌, arith}
 use Rattle.std.proofs.lemmas.List.{drop_more}
-use Rattle.line.specs.Layout.{part, number, bytes_of}
-
--- a byte below what is left of a number comes out again
-pub low_byte : (b n : ℕ) → b < 256 → (b + 256 * n) % 256 ≡ b
-low_byte b n h = omega arith
-
-pub high_part : (b n : ℕ) → b < 256 → (b + 256 * n) / 256 ≡ n
-high_part b n h = omega arith
-
--- the bytes of the number that bytes write are those bytes
-pub bytes_number : (bs : List ℕ) → AllByRecursion (λ b. b < 256) bs → bytes_of (length bs) (number bs) ≡ bs
-unfolding bytes_of
-bytes_number [] h = refl
-bytes_number (b ∷ bs) (h, hs) =
-    rw (low_byte b (number bs) h, high_part b (number bs) h, bytes_number bs hs)
-
--- the number that a number's bytes write is that number
-pub number_bytes : (w n : ℕ) → n < 256 ^ w → number (bytes_of w n) ≡ n
-unfolding bytes_of
-number_bytes zero n h = omega arith
-number_bytes (suc w) n h =
-    let small : n / 256 < 256 ^ w = omega (arith, rw pow-suc at h) in rw (number_bytes w (n / 256) small) (omega arith)
+use Rattle.line.specs.Layout.{part}
 
 -- a part one byte wider
 pub part_more : (at w : ℕ) (bs : List ℕ) → at < length bs → part at (suc w) bs ≡ get_or bs at 0 ∷ part (at + 1) w bs

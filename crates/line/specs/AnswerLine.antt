@@ -1,8 +1,11 @@
 -- ANSWER: a box tells a tablet its call's place, the history up to there, and the reply.
-use Rattle.std.specs.Prelude.{ℕ, ◌+◌, Bool, ◌&&◌, List, ◌++◌, length, ◌==◌}
-use Rattle.fault.specs.Verdict.{Verdict, good}
-use Rattle.line.specs.Layout.{part, bytes_of, header, number_at, sender_at, sender_width, view_at, view_width, header_size, tag_width, place_width, history_width, client_width, stamp_width, reply_width}
-use Rattle.line.specs.Rules.{◌then◌, sized, ruled, in_numbers, in_clients}
+use Rattle.std.specs.Prelude.{ℕ, Bool, true, ◌&&◌, List, [], ◌∷◌, length, ◌==◌, Ok, Result}
+use Rattle.fault.specs.declared.Fault.{Fault}
+use Rattle.line.specs.Forms as forms
+use Rattle.line.specs.Forms.{Form}
+use Rattle.line.specs.Layout.{place_width, history_width, client_width, stamp_width, reply_width}
+use Rattle.line.specs.Parts.{numeric, plain}
+use Rattle.line.specs.Rules.{in_numbers, in_clients}
 use Rattle.line.specs.SetUp.{is_replica}
 use Rattle.line.specs.declared.answer.Answer.{Answer}
 use Rattle.line.specs.declared.pit.Pit.{Pit}
@@ -18,33 +21,6 @@ pub record Model : Type 0 where
   pub reply : List ℕ
   pub tag : List ℕ
 
--- the number of the kind
-abbrev pub kind : ℕ
-kind = 3
-
--- where the parts begin, each behind the one before it
-abbrev pub place_at : ℕ
-place_at = header_size
-
-abbrev pub history_at : ℕ
-history_at = place_at + place_width
-
-abbrev pub client_at : ℕ
-client_at = history_at + history_width
-
-abbrev pub stamp_at : ℕ
-stamp_at = client_at + client_width
-
-abbrev pub reply_at : ℕ
-reply_at = stamp_at + stamp_width
-
-abbrev pub tag_at : ℕ
-tag_at = reply_at + reply_width
-
--- the size of the whole line
-abbrev pub size : ℕ
-size = tag_at + tag_width
-
 -- what the record shows
 abbrev pub shown : Answer → Model
 shown r = record {
@@ -58,47 +34,54 @@ shown r = record {
   tag = r.tag.now;
 }
 
--- what the bytes say
-abbrev pub fields : List ℕ → Model
-fields bytes = record {
-  sender = number_at sender_width sender_at bytes;
-  view = number_at view_width view_at bytes;
-  place = number_at place_width place_at bytes;
-  history = part history_at history_width bytes;
-  client = number_at client_width client_at bytes;
-  stamp = number_at stamp_width stamp_at bytes;
-  reply = part reply_at reply_width bytes;
-  tag = part tag_at tag_width bytes;
-}
-
--- any box
-abbrev pub may_send : Pit → ℕ → Bool
-may_send pit party = is_replica pit party
-
 -- every field in its range
 abbrev pub in_range : Model → Bool
 in_range m = in_numbers m.place && in_numbers m.stamp && in_clients m.client
-
--- checks 6 to 8
-abbrev pub judged : Pit → ℕ → Model → Verdict (Unit {0})
-judged pit at m = ruled pit at m.view (may_send pit m.sender) (in_range m)
-
--- checks 5 to 8 on an ANSWER that begins at an offset
-abbrev pub read : Pit → ℕ → List ℕ → Verdict Model
-read pit at bytes = sized size at bytes then judged pit at (fields bytes) then good (fields bytes)
 
 -- the parts of the text have their widths
 abbrev pub text_shaped : Model → Bool
 text_shaped m = length m.history == history_width && length m.reply == reply_width
 
--- and so has the tag
+-- the kind
+abbrev pub form : Form Model
+form = record {
+  kind = 3;
+  parts = numeric place_width ∷ plain history_width ∷ numeric client_width ∷ numeric stamp_width ∷ plain reply_width ∷ [];
+  count = λ m. 0;
+  sender = λ m. m.sender;
+  view = λ m. m.view;
+  values = λ m. (m.place, (m.history, (m.client, (m.stamp, (m.reply, tt)))));
+  tag = λ m. m.tag;
+  saying = λ sender view vs tag. record {
+    sender = sender;
+    view = view;
+    place = vs.0;
+    history = vs.1.0;
+    client = vs.1.1.0;
+    stamp = vs.1.1.1.0;
+    reply = vs.1.1.1.1.0;
+    tag = tag;
+  };
+  text_shaped = text_shaped;
+  count_in = λ pit. 0;
+  may_send = is_replica;
+  in_range = λ pit m. in_range m;
+  inside = λ pit at bytes. Ok tt;
+  inside_passes = λ pit m. true;
+}
+
+-- by their names
+abbrev pub read : Pit → ℕ → List ℕ → Result Model Fault
+read pit at bytes = forms.read form pit at bytes
+
 abbrev pub shaped : Model → Bool
-shaped m = text_shaped m && length m.tag == tag_width
+shaped m = forms.shaped form m
 
--- what is stamped
-unfoldable pub text : Model → List ℕ
-text m = header size kind m.sender m.view ++ (bytes_of place_width m.place ++ (m.history ++ (bytes_of client_width m.client ++ (bytes_of stamp_width m.stamp ++ m.reply))))
+abbrev pub text : Model → List ℕ
+text m = forms.text form m
 
--- what is sent
 abbrev pub line : Model → List ℕ
-line m = text m ++ m.tag
+line m = forms.line form m
+
+abbrev pub size : ℕ
+size = forms.size_of form 0

@@ -1,9 +1,12 @@
 -- CERT: a tablet shows that a quorum of boxes gave one ANSWER.
-use Rattle.std.specs.Prelude.{ℕ, zero, suc, ◌+◌, ◌*◌, Bool, true, cond, ◌&&◌, List, [], ◌∷◌, ◌++◌, length, drop, Some, None, Option, ◌==◌, nat_le, nat_lt}
-use Rattle.fault.specs.Verdict.{Verdict, good}
+use Rattle.std.specs.Prelude.{ℕ, zero, suc, ◌+◌, ◌*◌, Bool, true, cond, ◌&&◌, List, [], ◌∷◌, length, drop, Some, None, Option, ◌==◌, nat_le, nat_lt, Ok, Result}
+use Rattle.fault.specs.declared.Fault.{Fault}
+use Rattle.line.specs.Forms as forms
+use Rattle.line.specs.Forms.{Form}
 use Rattle.line.specs.AnswerLine as answer
-use Rattle.line.specs.Layout.{part, bytes_of, header, most_size, number_at, sender_at, sender_width, view_at, view_width, header_size, tag_width, place_width, history_width, client_width, stamp_width, reply_width, count_width, replica_width}
-use Rattle.line.specs.Rules.{◌then◌, sized, ruled, in_numbers, in_clients}
+use Rattle.line.specs.Layout.{part, number_at, most_size, header_size, tag_width, place_width, history_width, client_width, stamp_width, reply_width, count_width, replica_width}
+use Rattle.line.specs.Parts.{numeric, plain, listed}
+use Rattle.line.specs.Rules.{in_numbers, in_clients}
 use Rattle.line.specs.SetUp.{is_client, client_party, replicas_of, quorum_of}
 use Rattle.line.specs.declared.cert.Cert.{Cert}
 use Rattle.line.specs.declared.pit.Pit.{Pit}
@@ -21,31 +24,9 @@ pub record Model : Type 0 where
   pub entries : List ℕ
   pub tag : List ℕ
 
--- the number of the kind
-abbrev pub kind : ℕ
-kind = 4
-
--- where the parts begin, each behind the one before it
-abbrev pub place_at : ℕ
-place_at = header_size
-
-abbrev pub history_at : ℕ
-history_at = place_at + place_width
-
-abbrev pub client_at : ℕ
-client_at = history_at + history_width
-
-abbrev pub stamp_at : ℕ
-stamp_at = client_at + client_width
-
-abbrev pub reply_at : ℕ
-reply_at = stamp_at + stamp_width
-
-abbrev pub count_at : ℕ
-count_at = reply_at + reply_width
-
+-- where the entries begin
 abbrev pub entries_at : ℕ
-entries_at = count_at + count_width
+entries_at = header_size + place_width + history_width + client_width + stamp_width + reply_width + count_width
 
 -- an entry is a box's number and that box's tag
 abbrev pub entry_size : ℕ
@@ -67,10 +48,6 @@ tag_at count = entries_at + entries_size count
 abbrev pub size_of : ℕ → ℕ
 size_of count = tag_at count + tag_width
 
--- a CERT has a quorum of entries
-abbrev pub size : Pit → ℕ
-size pit = size_of (quorum_of pit)
-
 -- what the record shows
 abbrev pub shown : Cert → Model
 shown r = record {
@@ -85,25 +62,6 @@ shown r = record {
   entries = r.entries.now;
   tag = r.tag.now;
 }
-
--- what the bytes say
-abbrev pub fields : Pit → List ℕ → Model
-fields pit bytes = record {
-  sender = number_at sender_width sender_at bytes;
-  view = number_at view_width view_at bytes;
-  place = number_at place_width place_at bytes;
-  history = part history_at history_width bytes;
-  client = number_at client_width client_at bytes;
-  stamp = number_at stamp_width stamp_at bytes;
-  reply = part reply_at reply_width bytes;
-  count = number_at count_width count_at bytes;
-  entries = part entries_at (entries_size (quorum_of pit)) bytes;
-  tag = part (tag_at (quorum_of pit)) tag_width bytes;
-}
-
--- any tablet
-abbrev pub may_send : Pit → ℕ → Bool
-may_send pit party = is_client party
 
 -- where entry i begins in the line
 abbrev pub entry_at : ℕ → ℕ
@@ -142,32 +100,54 @@ in_range pit m =
     in_numbers m.place && (in_numbers m.stamp && (in_clients m.client && (m.sender == client_party m.client
     && (m.count == quorum_of pit && rising 0 (replicas_of pit) (voters (quorum_of pit) m.entries)))))
 
--- checks 6 to 8
-abbrev pub judged : Pit → ℕ → Model → Verdict (Unit {0})
-judged pit at m = ruled pit at m.view (may_send pit m.sender) (in_range pit m)
-
--- checks 5 to 8 on a CERT that begins at an offset
-abbrev pub read : Pit → ℕ → List ℕ → Verdict Model
-read pit at bytes =
-    sized (size pit) at bytes then judged pit at (fields pit bytes) then good (fields pit bytes)
-
 -- the parts of the text have their widths, and the size field can tell the size
 abbrev pub text_shaped : Model → Bool
 text_shaped m =
     (length m.history == history_width) && (length m.reply == reply_width
     && (length m.entries == entries_size m.count && nat_le (size_of m.count) most_size))
 
--- and so has the tag
+-- the kind
+abbrev pub form : Form Model
+form = record {
+  kind = 4;
+  parts = numeric place_width ∷ plain history_width ∷ numeric client_width ∷ numeric stamp_width ∷ plain reply_width ∷ numeric count_width ∷ listed entry_size ∷ [];
+  count = λ m. m.count;
+  sender = λ m. m.sender;
+  view = λ m. m.view;
+  values = λ m. (m.place, (m.history, (m.client, (m.stamp, (m.reply, (m.count, (m.entries, tt)))))));
+  tag = λ m. m.tag;
+  saying = λ sender view vs tag. record {
+    sender = sender;
+    view = view;
+    place = vs.0;
+    history = vs.1.0;
+    client = vs.1.1.0;
+    stamp = vs.1.1.1.0;
+    reply = vs.1.1.1.1.0;
+    count = vs.1.1.1.1.1.0;
+    entries = vs.1.1.1.1.1.1.0;
+    tag = tag;
+  };
+  text_shaped = text_shaped;
+  count_in = quorum_of;
+  may_send = λ pit party. is_client party;
+  in_range = in_range;
+  inside = λ pit at bytes. Ok tt;
+  inside_passes = λ pit m. true;
+}
+
+-- by their names
+abbrev pub read : Pit → ℕ → List ℕ → Result Model Fault
+read pit at bytes = forms.read form pit at bytes
+
 abbrev pub shaped : Model → Bool
-shaped m = text_shaped m && length m.tag == tag_width
+shaped m = forms.shaped form m
 
--- what is stamped
-unfoldable pub text : Model → List ℕ
-text m =
-    header (size_of m.count) kind m.sender m.view ++ (bytes_of place_width m.place ++ (m.history
-    ++ (bytes_of client_width m.client ++ (bytes_of stamp_width m.stamp ++ (m.reply
-    ++ (bytes_of count_width m.count ++ m.entries))))))
+abbrev pub text : Model → List ℕ
+text m = forms.text form m
 
--- what is sent
 abbrev pub line : Model → List ℕ
-line m = text m ++ m.tag
+line m = forms.line form m
+
+abbrev pub fields : Pit → List ℕ → Model
+fields pit bytes = forms.fields_in form pit bytes

@@ -1,6 +1,9 @@
 -- The seven kinds of lines, their numbers, and which of them a machine takes.
-use Rattle.std.specs.Prelude.{ℕ, Bool, cond, List, [], ◌∷◌, Some, None, Option, ◌==◌}
-use Rattle.fault.specs.Verdict.{Verdict, good, bad, check}
+use Rattle.std.specs.Prelude.{ℕ, Bool, cond, List, [], ◌∷◌, Some, None, Option, ◌==◌, Ok, Result}
+use Rattle.fault.specs.Checks.{check, refused, ◌>>◌}
+use Rattle.fault.specs.declared.Fault.{Fault}
+use Rattle.fault.specs.declared.Reason.TheVariants as reason
+use Rattle.fault.specs.declared.Reason.TheVariants.{LineSize}
 use Rattle.line.specs.AnswerLine as answer
 use Rattle.line.specs.CallLine as call
 use Rattle.line.specs.CertLine as cert
@@ -16,13 +19,13 @@ use Rattle.line.specs.declared.kind.Kinds.{Kinds}
 
 -- the number by which a line names its kind
 abbrev pub kind_number : Kind → ℕ
-kind_number Call = call.kind
-kind_number Order = order.kind
-kind_number Answer = answer.kind
-kind_number Cert = cert.kind
-kind_number Committed = committed.kind
-kind_number Sheet = sheet.kind
-kind_number Charge = charge.kind
+kind_number Call = call.form.kind
+kind_number Order = order.form.kind
+kind_number Answer = answer.form.kind
+kind_number Cert = cert.form.kind
+kind_number Committed = committed.form.kind
+kind_number Sheet = sheet.form.kind
+kind_number Charge = charge.form.kind
 
 -- all there are
 abbrev pub all_kinds : List Kind
@@ -48,10 +51,12 @@ takes t Sheet = t.sheet
 takes t Charge = t.charge
 
 -- 4: a kind, and one that is taken
-abbrev pub taken_kind : Kinds → Option Kind → Verdict Kind
-taken_kind t None = bad 4 0
-taken_kind t (Some kind) = check (takes t kind) 4 0 (good kind)
+abbrev pub taken_kind : Kinds → Option Kind → Result Kind Fault
+taken_kind t None = refused reason.Kind 0
+taken_kind t (Some kind) = check (takes t kind) reason.Kind 0 >> Ok kind
 
 -- 3 and 4 on the bytes taken: a whole line, of a kind that is taken
-abbrev pub outer_kind : Kinds → List ℕ → Verdict Kind
-outer_kind t bytes = check (whole bytes) 3 0 (taken_kind t (kind_named (number_at kind_width kind_at bytes)))
+abbrev pub outer_kind : Kinds → List ℕ → Result Kind Fault
+outer_kind t bytes = do
+  check (whole bytes) LineSize 0
+  taken_kind t (kind_named (number_at kind_width kind_at bytes))

@@ -1,5 +1,5 @@
 -- How numbers and parts lie in a line, and the widths that every kind shares.
-use Rattle.std.specs.Prelude.{ℕ, zero, suc, ◌+◌, ◌-◌, ◌*◌, ◌/◌, ◌%◌, ◌^◌, List, [], ◌∷◌, ◌++◌, length, take, drop}
+use Rattle.std.specs.Prelude.{ℕ, zero, suc, ◌+◌, ◌-◌, ◌*◌, ◌/◌, ◌%◌, ◌^◌, List, [], ◌∷◌, take, drop}
 
 -- the part of a line that begins at an offset and has a width
 abbrev pub part : ℕ → ℕ → List ℕ → List ℕ
@@ -18,10 +18,6 @@ number_at width at bytes = number (part at width bytes)
 unfoldable pub bytes_of : ℕ → ℕ → List ℕ
 bytes_of zero n = []
 bytes_of (suc width) n = n % 256 ∷ bytes_of width (n / 256)
-
--- what memory holds after bytes were put into it at an offset
-abbrev pub pasted : ℕ → List ℕ → List ℕ → List ℕ
-pasted at bytes out = take at out ++ (bytes ++ drop (at + length bytes) out)
 
 -- every line begins with its size, kind, sender and view, and ends with its tag
 abbrev pub size_at : ℕ
@@ -54,11 +50,6 @@ view_width = 4
 
 abbrev pub header_size : ℕ
 header_size = view_at + view_width
-
--- the header of a line
-abbrev pub header : ℕ → ℕ → ℕ → ℕ → List ℕ
-header size kind sender view =
-    bytes_of size_width size ++ (bytes_of kind_width kind ++ (bytes_of sender_width sender ++ bytes_of view_width view))
 
 -- the widths of the parts that lie between header and tag, and of the tag
 abbrev pub stamp_width : ℕ

@@ -1,11 +1,14 @@
 -- A line of any kind, and its reading: checks 3 to 8 on every byte string.
-use Rattle.std.specs.Prelude.{ℕ, Bool, List, ◌++◌}
-use Rattle.fault.specs.Verdict.{Verdict, good, after}
+use Rattle.std.specs.Prelude.{ℕ, Bool, List, ◌++◌, Ok, Result}
+use Rattle.fault.specs.Checks.{◌>>=◌}
+use Rattle.fault.specs.declared.Fault.{Fault}
 use Rattle.line.specs.AnswerLine as answer
 use Rattle.line.specs.CallLine as call
 use Rattle.line.specs.CertLine as cert
 use Rattle.line.specs.ChargeLine as charge
 use Rattle.line.specs.CommittedLine as committed
+use Rattle.line.specs.Forms as forms
+use Rattle.line.specs.Forms.{Form}
 use Rattle.line.specs.Kinds.{outer_kind}
 use Rattle.line.specs.OrderLine as order
 use Rattle.line.specs.SheetLine as sheet
@@ -37,58 +40,44 @@ line_shown (variant.Sheet r) = printed (sheet.shown r)
 line_shown (variant.Charge r) = charged (charge.shown r)
 
 -- checks 5 to 8, by the kind, and then 3 to 8 on the lines inside
-abbrev pub read_as : Pit → List ℕ → Kind → Verdict Model
-read_as pit bytes Call = after (call.read pit 0 bytes) (λ m. good (called m))
-read_as pit bytes Order = after (order.read pit 0 bytes) (λ m. good (ordered m))
-read_as pit bytes Answer = after (answer.read pit 0 bytes) (λ m. good (answered m))
-read_as pit bytes Cert = after (cert.read pit 0 bytes) (λ m. good (certified m))
-read_as pit bytes Committed = after (committed.read pit 0 bytes) (λ m. good (marked m))
-read_as pit bytes Sheet = after (sheet.read pit 0 bytes) (λ m. good (printed m))
-read_as pit bytes Charge = after (charge.read pit 0 bytes) (λ m. good (charged m))
+abbrev pub read_as : Pit → List ℕ → Kind → Result Model Fault
+read_as pit bytes Call = forms.read call.form pit 0 bytes >>= (λ m. Ok (called m))
+read_as pit bytes Order = forms.read order.form pit 0 bytes >>= (λ m. Ok (ordered m))
+read_as pit bytes Answer = forms.read answer.form pit 0 bytes >>= (λ m. Ok (answered m))
+read_as pit bytes Cert = forms.read cert.form pit 0 bytes >>= (λ m. Ok (certified m))
+read_as pit bytes Committed = forms.read committed.form pit 0 bytes >>= (λ m. Ok (marked m))
+read_as pit bytes Sheet = forms.read sheet.form pit 0 bytes >>= (λ m. Ok (printed m))
+read_as pit bytes Charge = forms.read charge.form pit 0 bytes >>= (λ m. Ok (charged m))
 
 -- what the bytes are to a machine of this pit that takes these kinds
-abbrev pub read : Pit → Kinds → List ℕ → Verdict Model
-read pit taken bytes = after (outer_kind taken bytes) (λ kind. read_as pit bytes kind)
+abbrev pub read : Pit → Kinds → List ℕ → Result Model Fault
+read pit taken bytes = outer_kind taken bytes >>= (λ kind. read_as pit bytes kind)
+
+-- what every kind's form tells of a record, of a line of any kind
+abbrev pub by_form : {A : Type 0} → ((M : Type 0) → Form M → M → A) → Model → A
+by_form tells (called m) = tells call.Model call.form m
+by_form tells (ordered m) = tells order.Model order.form m
+by_form tells (answered m) = tells answer.Model answer.form m
+by_form tells (certified m) = tells cert.Model cert.form m
+by_form tells (marked m) = tells committed.Model committed.form m
+by_form tells (printed m) = tells sheet.Model sheet.form m
+by_form tells (charged m) = tells charge.Model charge.form m
 
 -- the parts of the text have their widths
 abbrev pub text_shaped : Model → Bool
-text_shaped (called m) = call.text_shaped m
-text_shaped (ordered m) = order.text_shaped m
-text_shaped (answered m) = answer.text_shaped m
-text_shaped (certified m) = cert.text_shaped m
-text_shaped (marked m) = committed.text_shaped m
-text_shaped (printed m) = sheet.text_shaped m
-text_shaped (charged m) = charge.text_shaped m
+text_shaped m = by_form (λ M form x. form.text_shaped x) m
 
 -- and so has the tag
 abbrev pub shaped : Model → Bool
-shaped (called m) = call.shaped m
-shaped (ordered m) = order.shaped m
-shaped (answered m) = answer.shaped m
-shaped (certified m) = cert.shaped m
-shaped (marked m) = committed.shaped m
-shaped (printed m) = sheet.shaped m
-shaped (charged m) = charge.shaped m
+shaped m = by_form (λ M form x. forms.shaped form x) m
 
 -- what is stamped
 abbrev pub text : Model → List ℕ
-text (called m) = call.text m
-text (ordered m) = order.text m
-text (answered m) = answer.text m
-text (certified m) = cert.text m
-text (marked m) = committed.text m
-text (printed m) = sheet.text m
-text (charged m) = charge.text m
+text m = by_form (λ M form x. forms.text form x) m
 
 -- the tag
 abbrev pub tag : Model → List ℕ
-tag (called m) = m.tag
-tag (ordered m) = m.tag
-tag (answered m) = m.tag
-tag (certified m) = m.tag
-tag (marked m) = m.tag
-tag (printed m) = m.tag
-tag (charged m) = m.tag
+tag m = by_form (λ M form x. form.tag x) m
 
 -- what is sent
 abbrev pub line : Model → List ℕ
@@ -96,10 +85,8 @@ line m = text m ++ tag m
 
 -- how long the line is
 abbrev pub size : Model → ℕ
-size (called m) = call.size
-size (ordered m) = order.size
-size (answered m) = answer.size
-size (certified m) = cert.size_of m.count
-size (marked m) = committed.size
-size (printed m) = sheet.size
-size (charged m) = charge.size
+size m = by_form (λ M form x. forms.size_of form (form.count x)) m
+
+-- a record passes checks 3 to 8
+abbrev pub passes : Pit → Model → Bool
+passes pit m = by_form (λ M form x. forms.passes form pit x) m

@@ -1,40 +1,32 @@
 -- The rules that every kind of line is read by, each with the number of its refusal.
-use Rattle.std.specs.Prelude.{ℕ, ◌%◌, Bool, cond, ◌&&◌, List, ◌++◌, length, drop, Ok, Err, Result, ◌==◌, nat_le, nat_lt}
-use Rattle.fault.specs.Reasons.{number_of}
+use Rattle.std.specs.Prelude.{ℕ, ◌%◌, Bool, cond, ◌&&◌, List, ◌++◌, length, drop, Ok, Result, ◌==◌, nat_le, nat_lt}
+use Rattle.fault.specs.Checks.{check, ◌>>◌}
 use Rattle.fault.specs.declared.Fault.{Fault}
-use Rattle.fault.specs.Verdict.{Verdict, good, bad, check}
+use Rattle.fault.specs.declared.Reason.TheVariants.{Room, LineSize, Kind, KindSize, View, Sender, Range}
 use Rattle.line.specs.Layout.{number_at, size_at, size_width, kind_at, kind_width, header_size}
 use Rattle.line.specs.SetUp.{clients}
 use Rattle.line.specs.declared.pit.Pit.{Pit}
-
--- the verdict that a reader's answer carries: what the record shows, or the refusal
-abbrev pub outcome : {A B : Type 0} → (A → B) → Result A Fault → Verdict B
-outcome shown (Ok a) = good (shown a)
-outcome shown (Err f) = bad (number_of f.reason) f.offset
-
-infixr 20 ◌then◌
--- one verdict after another: the first refusal stands
-abbrev pub ◌then◌ : {A B : Type 0} → Verdict A → Verdict B → Verdict B
-good a then next = next
-bad number offset then next = bad number offset
 
 -- the size field tells the bytes that there are, a whole header at least
 abbrev pub whole : List ℕ → Bool
 whole bytes = nat_le header_size (length bytes) && number_at size_width size_at bytes == length bytes
 
 -- 3, 4: a whole line, of a kind that is taken here
-abbrev pub entered : ℕ → List ℕ → (ℕ → Bool) → Verdict (Unit {0})
-entered at bytes takes =
-    check (whole bytes) 3 at (check (takes (number_at kind_width kind_at bytes)) 4 at (good tt))
+abbrev pub entered : ℕ → List ℕ → (ℕ → Bool) → Result (Unit {0}) Fault
+entered at bytes takes = do
+  check (whole bytes) LineSize at
+  check (takes (number_at kind_width kind_at bytes)) Kind at
 
 -- 5: the line has the size of its kind
-abbrev pub sized : ℕ → ℕ → List ℕ → Verdict (Unit {0})
-sized size at bytes = check (length bytes == size) 5 at (good tt)
+abbrev pub sized : ℕ → ℕ → List ℕ → Result (Unit {0}) Fault
+sized size at bytes = check (length bytes == size) KindSize at
 
 -- 6, 7, 8: the pit's view, a sender who may send this, every field in its range
-abbrev pub ruled : Pit → ℕ → ℕ → Bool → Bool → Verdict (Unit {0})
-ruled pit at view sender_may in_range =
-    check (view == pit.view) 6 at (check sender_may 7 at (check in_range 8 at (good tt)))
+abbrev pub ruled : Pit → ℕ → ℕ → Bool → Bool → Result (Unit {0}) Fault
+ruled pit at view sender_may in_range = do
+  check (view == pit.view) View at
+  check sender_may Sender at
+  check in_range Range at
 
 -- places and stamps go from 1 to this
 abbrev pub last_number : ℕ
@@ -61,8 +53,8 @@ abbrev pub writable : Bool → ℕ → List ℕ → Bool
 writable shaped size out = shaped && nat_le size (length out)
 
 -- what a writer answers: how much it wrote, or refusal 2
-abbrev pub written : Bool → ℕ → List ℕ → Verdict ℕ
-written shaped size out = check (writable shaped size out) 2 0 (good size)
+abbrev pub written : Bool → ℕ → List ℕ → Result ℕ Fault
+written shaped size out = check (writable shaped size out) Room 0 >> Ok size
 
 -- what the memory holds then: the bytes in front, the rest as it was; all as it was where nothing is written
 abbrev pub memory_after : Bool → ℕ → List ℕ → List ℕ → List ℕ

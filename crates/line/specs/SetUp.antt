@@ -1,15 +1,17 @@
 -- A pit: how many boxes it has, who leads, and which parties there are.
-use Rattle.std.specs.Prelude.{ℕ, ◌+◌, ◌*◌, ◌%◌, Bool, ◌&&◌, ◌==◌, nat_le, nat_lt}
-use Rattle.fault.specs.Verdict.{Verdict, good, check}
+use Rattle.std.specs.Prelude.{ℕ, ◌+◌, ◌*◌, ◌%◌, Bool, ◌&&◌, ◌==◌, nat_le, nat_lt, Ok, Result}
+use Rattle.fault.specs.Checks.{check, ◌>>◌}
+use Rattle.fault.specs.declared.Fault.{Fault}
+use Rattle.fault.specs.declared.Reason.TheVariants.{SetUp}
 use Rattle.line.specs.declared.pit.Pit.{Pit}
 
 -- a pit stands up to one, two or three lying boxes
 abbrev pub allowed : ℕ → Bool
 allowed f = nat_le 1 f && nat_le f 3
 
--- what opening a pit answers
-abbrev pub opened : ℕ → ℕ → Verdict Pit
-opened f view = check (allowed f) 1 0 (good (record { f = f; view = view }))
+-- what opening a pit answers: 1 unless it stands up to one, two or three
+abbrev pub opened : ℕ → ℕ → Result Pit Fault
+opened f view = check (allowed f) SetUp 0 >> Ok (record { f = f; view = view })
 
 -- the number of boxes
 abbrev pub replicas_of : Pit → ℕ

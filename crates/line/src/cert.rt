@@ -1,16 +1,15 @@
 //! CERT: a tablet shows that a quorum of boxes gave one ANSWER.
-ghost use Rattle.fault.specs.Verdict.{verdict};
 ghost use Rattle.line.specs.AnswerLine.{shown as answer_shown};
-ghost use Rattle.line.specs.CertLine.{read as read_at, answer_of, shown, may_send, in_range, rising, voters, entries_size, size_of, text_shaped, shaped, text, line, tag_at as cert_tag_at};
-ghost use Rattle.line.specs.Rules.{outcome, written, memory_after};
+ghost use Rattle.line.specs.CertLine.{answer_of, shown, fields, in_range, rising, voters, entries_size, size_of};
 ghost use Rattle.line.specs.SetUp.{quorum_of};
 ghost use Rattle.std.specs.Option.{option_map};
-ghost use Rattle.std.specs.Prelude.{◌≡◌, ◌+◌, ◌^◌, ◌<◌, ◌≤◌, true, length};
+ghost use Rattle.std.specs.Prelude.{◌≡◌, ◌+◌, ◌^◌, ◌<◌, ◌≤◌, length};
 
 use crate::answer::Answer;
 use crate::layout::*;
 use crate::pit::{FIRST_CLIENT, Pit, is_client};
-use fault::{Fault, Reason};
+use crate::record::{Form, FromLine};
+use fault::Fault;
 
 pub const KIND: u16 = 4;
 
@@ -81,26 +80,6 @@ fn rises(entries: &[u8], count: u16, replicas: u16) -> bool
 }
 
 impl<'a> Cert<'a> {
-    /// Any tablet sends CERTs.
-    fn may_send(&self, pit: &Pit) -> bool
-        ensures { result ≡ may_send pit.now self.now.sender }
-    {
-        is_client(self.sender)
-    }
-
-    /// Place and stamp may be given, the tablet is the sender, and the entries are those of a quorum.
-    fn in_range(&self, pit: &Pit) -> bool
-        requires { entries_size (quorum_of pit.now) ≤ length self.now.entries.now }
-        ensures { result ≡ in_range pit.now (shown self.now) }
-    {
-        in_numbers(self.place)
-            && in_numbers(self.stamp)
-            && in_clients(self.client)
-            && self.sender == FIRST_CLIENT + self.client
-            && self.count == pit.quorum()
-            && rises(self.entries, pit.quorum(), pit.replicas())
-    }
-
     /// The ANSWER that an entry stands for: that box's, with what the CERT says. None where there is no such entry.
     pub fn answer(&self, i: u16) -> Option<Answer<'a>>
         ensures { option_map answer_shown result ≡ answer_of (shown self.now) i }
@@ -121,101 +100,102 @@ impl<'a> Cert<'a> {
         })
     }
 
-    /// Where the tag begins: behind the entries.
-    fn tag_at(&self) -> usize
-        ensures value { result ≡ cert_tag_at self.now.count }
-        ensures few { result < 2 ^ 32 }
-    {
-        ENTRIES_AT + ENTRY_SIZE * self.count as usize
-    }
-
     /// The size of the line.
     fn size(&self) -> usize
         ensures { result ≡ size_of self.now.count }
     {
-        self.tag_at() + TAG_WIDTH
+        ENTRIES_AT + ENTRY_SIZE * self.count as usize + TAG_WIDTH
     }
 
-    /// The parts of the text have their widths, and the size field can tell the size.
-    fn text_shaped(&self) -> bool
-        ensures { result ≡ text_shaped (shown self.now) }
+    /// Place and stamp may be given, the tablet is the sender, and the entries are those of a quorum.
+    fn is_in_range(&self, pit: &Pit) -> bool
+        requires { entries_size (quorum_of pit.now) ≤ length self.now.entries.now }
+        ensures { result ≡ in_range pit.now (shown self.now) }
     {
+        in_numbers(self.place)
+            && in_numbers(self.stamp)
+            && in_clients(self.client)
+            && self.sender == FIRST_CLIENT + self.client
+            && self.count == pit.quorum()
+            && rises(self.entries, pit.quorum(), pit.replicas())
+    }
+}
+
+impl Form for Cert<'_> {
+    ghost use Rattle.line.specs.CertLine.{Model as CertModel, shown as cert_shown, form as cert_form};
+    ghost use Rattle.line.specs.Shows.{cert_shows};
+
+    ghost Model = { CertModel };
+
+    ghost shown = { cert_shown };
+
+    ghost form = { cert_form };
+
+    ghost kept = { cert_shows };
+
+    fn text_shaped(&self) -> bool {
         self.history.len() == HISTORY_WIDTH
             && self.reply.len() == REPLY_WIDTH
             && self.entries.len() == ENTRY_SIZE * self.count as usize
             && self.size() <= MOST_SIZE
     }
 
-    /// The parts of the line have their widths.
-    pub(crate) fn shaped(&self) -> bool
-        ensures { result ≡ shaped (shown self.now) }
-    {
-        self.text_shaped() && self.tag.len() == TAG_WIDTH
+    fn tag_at(&self) -> usize {
+        ENTRIES_AT + ENTRY_SIZE * self.count as usize
     }
 
-    /// Fills memory of just its size with the text.
-    pub(crate) fn fill(&self, out: &mut [u8])
-        requires shape { text_shaped (shown self.now) ≡ true }
-        requires room { length out.old ≡ (cert_tag_at self.now.count) }
-        ensures { out.new ≡ text (shown self.now) }
-    {
-        put_header(out, self.size() as u16, KIND, self.sender, self.view);
-        put32(out, PLACE_AT, self.place);
-        put(out, HISTORY_AT, self.history);
-        put16(out, CLIENT_AT, self.client);
-        put32(out, STAMP_AT, self.stamp);
-        put(out, REPLY_AT, self.reply);
-        put16(out, COUNT_AT, self.count);
-        put(out, ENTRIES_AT, self.entries);
+    fn sender(&self) -> u16 {
+        self.sender
     }
 
-    /// Writes the text into the front of the memory, and answers its size.
-    pub fn write_text(&self, out: &mut [u8]) -> Result<usize, Fault>
-        ensures answer { verdict result ≡ written (text_shaped (shown self.now)) (cert_tag_at self.now.count) out.old }
-        ensures after { out.new ≡ memory_after (text_shaped (shown self.now)) (cert_tag_at self.now.count) (text (shown self.now)) out.old }
-    {
-        let tag_at = self.tag_at();
-        if !self.text_shaped() || out.len() < tag_at {
-            return Err(Fault::of(Reason::Room));
-        }
-        self.fill(&mut out[0..tag_at]);
-        Ok(tag_at)
+    fn tag(&self) -> &[u8] {
+        self.tag
     }
 
-    /// Writes the line into the front of the memory, and answers its size.
-    pub fn write(&self, out: &mut [u8]) -> Result<usize, Fault>
-        ensures answer { verdict result ≡ written (shaped (shown self.now)) (size_of self.now.count) out.old }
-        ensures after { out.new ≡ memory_after (shaped (shown self.now)) (size_of self.now.count) (line (shown self.now)) out.old }
-    {
-        let tag_at = self.tag_at();
-        if !self.shaped() || out.len() < tag_at + TAG_WIDTH {
-            return Err(Fault::of(Reason::Room));
-        }
-        self.fill(&mut out[0..tag_at]);
-        put(out, tag_at, self.tag);
-        Ok(tag_at + TAG_WIDTH)
+    #[tactic(auto, unfolding(crate::specs::Forms::text))]
+    fn fill(&self, out: &mut [u8]) {
+        let at = put_header(out, self.size() as u16, KIND, self.sender, self.view);
+        let at = put32(out, at, self.place);
+        let at = put(out, at, self.history);
+        let at = put16(out, at, self.client);
+        let at = put32(out, at, self.stamp);
+        let at = put(out, at, self.reply);
+        let at = put16(out, at, self.count);
+        put(out, at, self.entries);
     }
 }
 
-/// Reads the CERT that the bytes are; they begin at that byte of the line taken.
-pub(crate) fn read<'a>(pit: &Pit, at: usize, bytes: &'a [u8]) -> Result<Cert<'a>, Fault>
-    ensures { outcome shown result ≡ read_at pit.now at bytes.now }
-{
-    let entries_size = entries_of(pit);
-    let tag_at = ENTRIES_AT + entries_size;
-    check_size(tag_at + TAG_WIDTH, at, bytes)?;
-    let cert = Cert {
-        sender: number16(bytes, SENDER_AT),
-        view: number32(bytes, VIEW_AT),
-        place: number32(bytes, PLACE_AT),
-        history: part_at(bytes, HISTORY_AT, HISTORY_WIDTH),
-        client: number16(bytes, CLIENT_AT),
-        stamp: number32(bytes, STAMP_AT),
-        reply: part_at(bytes, REPLY_AT, REPLY_WIDTH),
-        count: number16(bytes, COUNT_AT),
-        entries: part_at(bytes, ENTRIES_AT, entries_size),
-        tag: part_at(bytes, tag_at, TAG_WIDTH),
-    };
-    check_rules(pit, at, cert.view, cert.may_send(pit), cert.in_range(pit))?;
-    Ok(cert)
+impl<'a> FromLine<'a> for Cert<'a> {
+    /// Any tablet sends CERTs. Place and stamp may be given, the tablet is the sender, and the entries are those of a quorum.
+    fn check_itself(pit: &Pit, at: usize, bytes: &'a [u8]) -> Result<(), Fault> {
+        check_size(ENTRIES_AT + entries_of(pit) + TAG_WIDTH, at, bytes)?;
+        let cert = Self::of(pit, bytes);
+        check_rules(
+            pit,
+            at,
+            cert.view,
+            is_client(cert.sender),
+            cert.is_in_range(pit),
+        )
+    }
+
+    fn check_inside(_pit: &Pit, _at: usize, _bytes: &'a [u8]) -> Result<(), Fault> {
+        Ok(())
+    }
+
+    fn of(pit: &Pit, bytes: &'a [u8]) -> Self {
+        let entries_size = entries_of(pit);
+        Cert {
+            sender: number16(bytes, SENDER_AT),
+            view: number32(bytes, VIEW_AT),
+            place: number32(bytes, PLACE_AT),
+            history: part_at(bytes, HISTORY_AT, HISTORY_WIDTH),
+            client: number16(bytes, CLIENT_AT),
+            stamp: number32(bytes, STAMP_AT),
+            reply: part_at(bytes, REPLY_AT, REPLY_WIDTH),
+            count: number16(bytes, COUNT_AT),
+            entries: part_at(bytes, ENTRIES_AT, entries_size),
+            tag: part_at(bytes, ENTRIES_AT + entries_size, TAG_WIDTH),
+        }
+    }
 }

@@ -1,14 +1,10 @@
 //! CHARGE: a tablet shows two ORDERs of the lead that do not go together.
-ghost use Rattle.fault.specs.Verdict.{verdict};
-ghost use Rattle.line.specs.ChargeLine.{read as read_at, shown, may_send, text_shaped, shaped, text, line, size, tag_at};
-ghost use Rattle.line.specs.Rules.{outcome, written, memory_after};
-ghost use Rattle.std.specs.Prelude.{◌≡◌, ◌+◌, ◌^◌, ◌<◌, true, length};
-
 use crate::layout::*;
-use crate::order;
-use crate::order::Order;
+use crate::order::{Order, order_of};
 use crate::pit::{Pit, is_client};
-use fault::{Fault, Reason};
+use crate::record::{Form, FromLine};
+use crate::{order, record};
+use fault::Fault;
 
 pub const KIND: u16 = 7;
 
@@ -30,82 +26,66 @@ pub struct Charge<'a> {
     pub tag: &'a [u8],
 }
 
-/// Any tablet sends CHARGEs.
-fn may_send(pit: &Pit, party: u16) -> bool
-    ensures { result ≡ may_send pit.now party }
-{
-    is_client(party)
-}
+impl Form for Charge<'_> {
+    ghost use Rattle.line.specs.ChargeLine.{Model as ChargeModel, shown as charge_shown, form as charge_form};
+    ghost use Rattle.line.specs.Shows.{charge_shows};
 
-impl Charge<'_> {
-    /// The ORDERs have their widths.
-    fn text_shaped(&self) -> bool
-        ensures { result ≡ text_shaped (shown self.now) }
-    {
-        self.first.shaped() && self.second.shaped()
+    ghost Model = { ChargeModel };
+
+    ghost shown = { charge_shown };
+
+    ghost form = { charge_form };
+
+    ghost kept = { charge_shows };
+
+    fn text_shaped(&self) -> bool {
+        record::is_shaped(&self.first) && record::is_shaped(&self.second)
     }
 
-    /// The parts of the line have their widths.
-    pub(crate) fn shaped(&self) -> bool
-        ensures { result ≡ shaped (shown self.now) }
-    {
-        self.text_shaped() && self.tag.len() == TAG_WIDTH
+    fn tag_at(&self) -> usize {
+        TAG_AT
     }
 
-    /// Fills memory of just its size with the text.
-    pub(crate) fn fill(&self, out: &mut [u8])
-        requires shape { text_shaped (shown self.now) ≡ true }
-        requires room { length out.old ≡ tag_at }
-        ensures { out.new ≡ text (shown self.now) }
-    {
-        put_header(out, SIZE as u16, KIND, self.sender, self.view);
-        self.first.put_line(out, FIRST_AT);
-        self.second.put_line(out, SECOND_AT);
+    fn sender(&self) -> u16 {
+        self.sender
     }
 
-    /// Writes the text into the front of the memory, and answers its size.
-    pub fn write_text(&self, out: &mut [u8]) -> Result<usize, Fault>
-        ensures answer { verdict result ≡ written (text_shaped (shown self.now)) tag_at out.old }
-        ensures after { out.new ≡ memory_after (text_shaped (shown self.now)) tag_at (text (shown self.now)) out.old }
-    {
-        if !self.text_shaped() || out.len() < TAG_AT {
-            return Err(Fault::of(Reason::Room));
-        }
-        self.fill(&mut out[0..TAG_AT]);
-        Ok(TAG_AT)
+    fn tag(&self) -> &[u8] {
+        self.tag
     }
 
-    /// Writes the line into the front of the memory, and answers its size.
-    pub fn write(&self, out: &mut [u8]) -> Result<usize, Fault>
-        ensures answer { verdict result ≡ written (shaped (shown self.now)) size out.old }
-        ensures after { out.new ≡ memory_after (shaped (shown self.now)) size (line (shown self.now)) out.old }
-    {
-        if !self.shaped() || out.len() < SIZE {
-            return Err(Fault::of(Reason::Room));
-        }
-        self.fill(&mut out[0..TAG_AT]);
-        put(out, TAG_AT, self.tag);
-        Ok(SIZE)
+    #[tactic(auto, unfolding(crate::specs::Forms::text))]
+    fn fill(&self, out: &mut [u8]) {
+        let at = put_header(out, SIZE as u16, KIND, self.sender, self.view);
+        let at = record::put_line(&self.first, out, at);
+        record::put_line(&self.second, out, at);
     }
 }
 
-/// Reads the CHARGE that the bytes are, and then the ORDERs in it; they begin at that byte of the line taken.
-pub(crate) fn read<'a>(pit: &Pit, at: usize, bytes: &'a [u8]) -> Result<Charge<'a>, Fault>
-    requires { at + length bytes.now < 2 ^ 64 }
-    ensures { outcome shown result ≡ read_at pit.now at bytes.now }
-{
-    check_size(SIZE, at, bytes)?;
-    let sender = number16(bytes, SENDER_AT);
-    let view = number32(bytes, VIEW_AT);
-    check_rules(pit, at, view, may_send(pit, sender), true)?;
-    let first = order::read_inner(pit, at + FIRST_AT, part_at(bytes, FIRST_AT, order::SIZE))?;
-    let second = order::read_inner(pit, at + SECOND_AT, part_at(bytes, SECOND_AT, order::SIZE))?;
-    let tag = part_at(bytes, TAG_AT, TAG_WIDTH);
-    Ok(Charge {
-        sender,
-        view,
-        first,
-        second,
-        tag,
-    })
+impl<'a> FromLine<'a> for Charge<'a> {
+    /// Any tablet sends CHARGEs. A CHARGE has no number of its own.
+    fn check_itself(pit: &Pit, at: usize, bytes: &'a [u8]) -> Result<(), Fault> {
+        check_size(SIZE, at, bytes)?;
+        let may_send = is_client(number16(bytes, SENDER_AT));
+        let in_range = true;
+        check_rules(pit, at, number32(bytes, VIEW_AT), may_send, in_range)
+    }
+
+    fn check_inside(pit: &Pit, at: usize, bytes: &'a [u8]) -> Result<(), Fault> {
+        let first = part_at(bytes, FIRST_AT, order::SIZE);
+        record::read_inner::<Order>(order::KIND, pit, at + FIRST_AT, first)?;
+        let second = part_at(bytes, SECOND_AT, order::SIZE);
+        record::read_inner::<Order>(order::KIND, pit, at + SECOND_AT, second)?;
+        Ok(())
+    }
+
+    fn of(_pit: &Pit, bytes: &'a [u8]) -> Self {
+        Charge {
+            sender: number16(bytes, SENDER_AT),
+            view: number32(bytes, VIEW_AT),
+            first: order_of(part_at(bytes, FIRST_AT, order::SIZE)),
+            second: order_of(part_at(bytes, SECOND_AT, order::SIZE)),
+            tag: part_at(bytes, TAG_AT, TAG_WIDTH),
+        }
+    }
 }

@@ -1,12 +1,8 @@
 //! COMMITTED: a box tells a tablet that it holds the certified history for good.
-ghost use Rattle.fault.specs.Verdict.{verdict};
-ghost use Rattle.line.specs.CommittedLine.{read as read_at, shown, may_send, in_range, text_shaped, shaped, text, line, size, tag_at};
-ghost use Rattle.line.specs.Rules.{outcome, written, memory_after};
-ghost use Rattle.std.specs.Prelude.{◌≡◌, true, length};
-
 use crate::layout::*;
 use crate::pit::Pit;
-use fault::{Fault, Reason};
+use crate::record::{Form, FromLine};
+use fault::Fault;
 
 pub const KIND: u16 = 5;
 
@@ -34,94 +30,68 @@ pub struct Committed<'a> {
     pub tag: &'a [u8],
 }
 
-impl Committed<'_> {
-    /// Any box sends COMMITTEDs.
-    fn may_send(&self, pit: &Pit) -> bool
-        ensures { result ≡ may_send pit.now self.now.sender }
-    {
-        pit.is_replica(self.sender)
-    }
+impl Form for Committed<'_> {
+    ghost use Rattle.line.specs.CommittedLine.{Model as CommittedModel, shown as committed_shown, form as committed_form};
+    ghost use Rattle.line.specs.Shows.{committed_shows};
 
-    /// Place and stamp may be given, and there is such a tablet.
-    fn in_range(&self) -> bool
-        ensures { result ≡ in_range (shown self.now) }
-    {
-        in_numbers(self.place) && in_numbers(self.stamp) && in_clients(self.client)
-    }
+    ghost Model = { CommittedModel };
 
-    /// The parts of the text have their widths.
-    fn text_shaped(&self) -> bool
-        ensures { result ≡ text_shaped (shown self.now) }
-    {
+    ghost shown = { committed_shown };
+
+    ghost form = { committed_form };
+
+    ghost kept = { committed_shows };
+
+    fn text_shaped(&self) -> bool {
         self.history.len() == HISTORY_WIDTH
     }
 
-    /// The parts of the line have their widths.
-    pub(crate) fn shaped(&self) -> bool
-        ensures { result ≡ shaped (shown self.now) }
-    {
-        self.text_shaped() && self.tag.len() == TAG_WIDTH
+    fn tag_at(&self) -> usize {
+        TAG_AT
     }
 
-    /// Fills memory of just its size with the text.
-    pub(crate) fn fill(&self, out: &mut [u8])
-        requires shape { text_shaped (shown self.now) ≡ true }
-        requires room { length out.old ≡ tag_at }
-        ensures { out.new ≡ text (shown self.now) }
-    {
-        put_header(out, SIZE as u16, KIND, self.sender, self.view);
-        put32(out, PLACE_AT, self.place);
-        put(out, HISTORY_AT, self.history);
-        put16(out, CLIENT_AT, self.client);
-        put32(out, STAMP_AT, self.stamp);
+    fn sender(&self) -> u16 {
+        self.sender
     }
 
-    /// Writes the text into the front of the memory, and answers its size.
-    pub fn write_text(&self, out: &mut [u8]) -> Result<usize, Fault>
-        ensures answer { verdict result ≡ written (text_shaped (shown self.now)) tag_at out.old }
-        ensures after { out.new ≡ memory_after (text_shaped (shown self.now)) tag_at (text (shown self.now)) out.old }
-    {
-        if !self.text_shaped() || out.len() < TAG_AT {
-            return Err(Fault::of(Reason::Room));
-        }
-        self.fill(&mut out[0..TAG_AT]);
-        Ok(TAG_AT)
+    fn tag(&self) -> &[u8] {
+        self.tag
     }
 
-    /// Writes the line into the front of the memory, and answers its size.
-    pub fn write(&self, out: &mut [u8]) -> Result<usize, Fault>
-        ensures answer { verdict result ≡ written (shaped (shown self.now)) size out.old }
-        ensures after { out.new ≡ memory_after (shaped (shown self.now)) size (line (shown self.now)) out.old }
-    {
-        if !self.shaped() || out.len() < SIZE {
-            return Err(Fault::of(Reason::Room));
-        }
-        self.fill(&mut out[0..TAG_AT]);
-        put(out, TAG_AT, self.tag);
-        Ok(SIZE)
+    #[tactic(auto, unfolding(crate::specs::Forms::text))]
+    fn fill(&self, out: &mut [u8]) {
+        let at = put_header(out, SIZE as u16, KIND, self.sender, self.view);
+        let at = put32(out, at, self.place);
+        let at = put(out, at, self.history);
+        let at = put16(out, at, self.client);
+        put32(out, at, self.stamp);
     }
 }
 
-/// Reads the COMMITTED that the bytes are; they begin at that byte of the line taken.
-pub(crate) fn read<'a>(pit: &Pit, at: usize, bytes: &'a [u8]) -> Result<Committed<'a>, Fault>
-    ensures { outcome shown result ≡ read_at pit.now at bytes.now }
-{
-    check_size(SIZE, at, bytes)?;
-    let committed = Committed {
-        sender: number16(bytes, SENDER_AT),
-        view: number32(bytes, VIEW_AT),
-        place: number32(bytes, PLACE_AT),
-        history: part_at(bytes, HISTORY_AT, HISTORY_WIDTH),
-        client: number16(bytes, CLIENT_AT),
-        stamp: number32(bytes, STAMP_AT),
-        tag: part_at(bytes, TAG_AT, TAG_WIDTH),
-    };
-    check_rules(
-        pit,
-        at,
-        committed.view,
-        committed.may_send(pit),
-        committed.in_range(),
-    )?;
-    Ok(committed)
+impl<'a> FromLine<'a> for Committed<'a> {
+    /// Any box sends COMMITTEDs. Place and stamp may be given, and there is such a tablet.
+    fn check_itself(pit: &Pit, at: usize, bytes: &'a [u8]) -> Result<(), Fault> {
+        check_size(SIZE, at, bytes)?;
+        let may_send = pit.is_replica(number16(bytes, SENDER_AT));
+        let in_range = in_numbers(number32(bytes, PLACE_AT))
+            && in_numbers(number32(bytes, STAMP_AT))
+            && in_clients(number16(bytes, CLIENT_AT));
+        check_rules(pit, at, number32(bytes, VIEW_AT), may_send, in_range)
+    }
+
+    fn check_inside(_pit: &Pit, _at: usize, _bytes: &'a [u8]) -> Result<(), Fault> {
+        Ok(())
+    }
+
+    fn of(_pit: &Pit, bytes: &'a [u8]) -> Self {
+        Committed {
+            sender: number16(bytes, SENDER_AT),
+            view: number32(bytes, VIEW_AT),
+            place: number32(bytes, PLACE_AT),
+            history: part_at(bytes, HISTORY_AT, HISTORY_WIDTH),
+            client: number16(bytes, CLIENT_AT),
+            stamp: number32(bytes, STAMP_AT),
+            tag: part_at(bytes, TAG_AT, TAG_WIDTH),
+        }
+    }
 }

@@ -1,5 +1,4 @@
 //! The seven kinds of lines, and which of them a machine takes.
-ghost use Rattle.fault.specs.Verdict.{verdict};
 ghost use Rattle.line.specs.Kinds.{kind_number, kind_named, takes as takes_kind, outer_kind};
 ghost use Rattle.std.specs.Prelude.{◌≡◌};
 
@@ -104,7 +103,7 @@ impl Kinds {
 
     /// The kind of the line that the bytes are: it must tell its own size, and be of a kind that is taken.
     pub(crate) fn kind_of(&self, bytes: &[u8]) -> Result<Kind, Fault>
-        ensures { verdict result ≡ outer_kind self.now bytes.now }
+        ensures { result ≡ outer_kind self.now bytes.now }
     {
         if !is_whole(bytes) {
             return Err(Fault::of(Reason::LineSize));

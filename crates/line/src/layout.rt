@@ -1,8 +1,8 @@
 //! How numbers and parts lie in a line, and the rules that every kind is read by.
-ghost use Rattle.fault.specs.Verdict.{verdict};
-ghost use Rattle.line.specs.Layout.{number_at, part, bytes_of, header, pasted};
+ghost use Rattle.fault.specs.Checks.{check};
+ghost use Rattle.line.specs.Layout.{number_at, part, bytes_of};
 ghost use Rattle.line.specs.Rules.{entered, sized, ruled, in_numbers, in_clients, on_sheet, whole};
-ghost use Rattle.std.specs.Prelude.{◌≡◌, ◌+◌, ◌≤◌, ◌++◌, length, drop, nat_eq};
+ghost use Rattle.std.specs.Prelude.{◌≡◌, ◌+◌, ◌≤◌, ◌++◌, length, take, nat_eq, OnOk};
 
 use crate::pit::{CLIENTS, Pit};
 use fault::{Fault, Reason};
@@ -89,7 +89,7 @@ pub(crate) fn is_whole(bytes: &[u8]) -> bool
 
 /// An inner line must tell its own size, and be of the kind that stands here.
 pub(crate) fn check_inner(kind: u16, at: usize, bytes: &[u8]) -> Result<(), Fault>
-    ensures { verdict result ≡ entered at bytes.now (λ k. nat_eq k kind) }
+    ensures { result ≡ entered at bytes.now (λ k. nat_eq k kind) }
 {
     if !is_whole(bytes) {
         return Err(Fault::at(Reason::LineSize, at));
@@ -102,7 +102,8 @@ pub(crate) fn check_inner(kind: u16, at: usize, bytes: &[u8]) -> Result<(), Faul
 
 /// The line must have the size of its kind.
 pub(crate) fn check_size(size: usize, at: usize, bytes: &[u8]) -> Result<(), Fault>
-    ensures { verdict result ≡ sized size at bytes.now }
+    ensures check { result ≡ sized size at bytes.now }
+    ensures size { OnOk result (length bytes.now ≡ size) }
 {
     if bytes.len() != size {
         return Err(Fault::at(Reason::KindSize, at));
@@ -118,7 +119,7 @@ pub(crate) fn check_rules(
     sender_may: bool,
     in_range: bool,
 ) -> Result<(), Fault>
-    ensures { verdict result ≡ ruled pit.now at view sender_may in_range }
+    ensures { result ≡ ruled pit.now at view sender_may in_range }
 {
     if view != pit.view() {
         return Err(Fault::at(Reason::View, at));
@@ -153,37 +154,45 @@ pub(crate) fn on_sheet(place: u32) -> bool
     place % SHEET_STEP == 0
 }
 
-/// Puts bytes into memory at an offset.
-pub(crate) fn put(out: &mut [u8], at: usize, bytes: &[u8])
+/// Puts bytes behind those that are written, and answers where they end.
+pub(crate) fn put(out: &mut [u8], at: usize, bytes: &[u8]) -> usize
     requires { at + length bytes.now ≤ length out.old }
-    ensures { out.new ≡ pasted at bytes.now out.old }
+    ensures end { result ≡ at + length bytes.now }
+    ensures front { take result out.new ≡ take at out.old ++ bytes.now }
 {
-    out[at..at + bytes.len()].copy_from_slice(bytes);
+    let end = at + bytes.len();
+    out[at..end].copy_from_slice(bytes);
+    end
 }
 
-/// Puts a 16-bit number into memory at an offset.
-pub(crate) fn put16(out: &mut [u8], at: usize, n: u16)
+/// Puts a 16-bit number behind them.
+#[tactic(auto, using(crate::proofs::Puts::bytes_of_2))]
+pub(crate) fn put16(out: &mut [u8], at: usize, n: u16) -> usize
     requires { at + 2 ≤ length out.old }
-    ensures { out.new ≡ pasted at (bytes_of 2 n) out.old }
+    ensures end { result ≡ at + 2 }
+    ensures front { take result out.new ≡ take at out.old ++ bytes_of 2 n }
 {
-    put(out, at, &n.to_le_bytes());
+    put(out, at, &n.to_le_bytes())
 }
 
-/// Puts a 32-bit number into memory at an offset.
-pub(crate) fn put32(out: &mut [u8], at: usize, n: u32)
+/// Puts a 32-bit number behind them.
+#[tactic(auto, using(crate::proofs::Puts::bytes_of_4))]
+pub(crate) fn put32(out: &mut [u8], at: usize, n: u32) -> usize
     requires { at + 4 ≤ length out.old }
-    ensures { out.new ≡ pasted at (bytes_of 4 n) out.old }
+    ensures end { result ≡ at + 4 }
+    ensures front { take result out.new ≡ take at out.old ++ bytes_of 4 n }
 {
-    put(out, at, &n.to_le_bytes());
+    put(out, at, &n.to_le_bytes())
 }
 
-/// Puts a line's header into the front of its memory.
-pub(crate) fn put_header(out: &mut [u8], size: u16, kind: u16, sender: u16, view: u32)
+/// Puts a line's header, and answers where it ends.
+pub(crate) fn put_header(out: &mut [u8], size: u16, kind: u16, sender: u16, view: u32) -> usize
     requires { 10 ≤ length out.old }
-    ensures { out.new ≡ header size kind sender view ++ drop 10 out.old }
+    ensures end { result ≡ 10 }
+    ensures front { take result out.new ≡ ((bytes_of 2 size ++ bytes_of 2 kind) ++ bytes_of 2 sender) ++ bytes_of 4 view }
 {
-    put16(out, SIZE_AT, size);
-    put16(out, KIND_AT, kind);
-    put16(out, SENDER_AT, sender);
-    put32(out, VIEW_AT, view);
+    let at = put16(out, SIZE_AT, size);
+    let at = put16(out, at, kind);
+    let at = put16(out, at, sender);
+    put32(out, at, view)
 }

@@ -12,4 +12,5 @@ pub mod layout;
 pub mod lines;
 pub mod order;
 pub mod pit;
+pub mod record;
 pub mod sheet;

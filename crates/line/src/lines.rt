@@ -1,7 +1,7 @@
 //! A line of any kind, and its reading.
-ghost use Rattle.fault.specs.Verdict.{verdict};
-ghost use Rattle.line.specs.Lines.{read as read_of, line_shown, shaped, size, line};
-ghost use Rattle.line.specs.Rules.{outcome, written, memory_after};
+ghost use Rattle.fault.specs.Checks.{result_map};
+ghost use Rattle.line.specs.Lines.{read as ReadOf, line_shown, shaped, size, line};
+ghost use Rattle.line.specs.Rules.{written, memory_after};
 ghost use Rattle.std.specs.Prelude.{◌≡◌};
 
 use crate::answer::Answer;
@@ -12,8 +12,9 @@ use crate::committed::Committed;
 use crate::kind::{Kind, Kinds};
 use crate::order::Order;
 use crate::pit::Pit;
+use crate::record;
+use crate::record::Record;
 use crate::sheet::Sheet;
-use crate::{answer, call, cert, charge, committed, order, sheet};
 use fault::Fault;
 
 /// A line, taken apart: its parts lie in the bytes that were read.
@@ -31,7 +32,7 @@ pub enum Line<'a> {
 impl Line<'_> {
     /// Writes the line into the front of the memory, and answers its size.
     pub fn write(&self, out: &mut [u8]) -> Result<usize, Fault>
-        ensures answer { verdict result ≡ written (shaped (line_shown self.now)) (size (line_shown self.now)) out.old }
+        ensures answer { result ≡ written (shaped (line_shown self.now)) (size (line_shown self.now)) out.old }
         ensures after { out.new ≡ memory_after (shaped (line_shown self.now)) (size (line_shown self.now)) (line (line_shown self.now)) out.old }
     {
         match self {
@@ -48,15 +49,15 @@ impl Line<'_> {
 
 /// Reads any bytes as a line of this pit, of a kind that is taken. Tags are not looked at.
 pub fn read<'a>(pit: &Pit, taken: &Kinds, bytes: &'a [u8]) -> Result<Line<'a>, Fault>
-    ensures { outcome line_shown result ≡ read_of pit.now taken.now bytes.now }
+    ensures { result_map line_shown result ≡ ReadOf pit.now taken.now bytes.now }
 {
     match taken.kind_of(bytes)? {
-        Kind::Call => Ok(Line::Call(call::read(pit, 0, bytes)?)),
-        Kind::Order => Ok(Line::Order(order::read(pit, 0, bytes)?)),
-        Kind::Answer => Ok(Line::Answer(answer::read(pit, 0, bytes)?)),
-        Kind::Cert => Ok(Line::Cert(cert::read(pit, 0, bytes)?)),
-        Kind::Committed => Ok(Line::Committed(committed::read(pit, 0, bytes)?)),
-        Kind::Sheet => Ok(Line::Sheet(sheet::read(pit, 0, bytes)?)),
-        Kind::Charge => Ok(Line::Charge(charge::read(pit, 0, bytes)?)),
+        Kind::Call => Ok(Line::Call(record::read(pit, 0, bytes)?)),
+        Kind::Order => Ok(Line::Order(record::read(pit, 0, bytes)?)),
+        Kind::Answer => Ok(Line::Answer(record::read(pit, 0, bytes)?)),
+        Kind::Cert => Ok(Line::Cert(record::read(pit, 0, bytes)?)),
+        Kind::Committed => Ok(Line::Committed(record::read(pit, 0, bytes)?)),
+        Kind::Sheet => Ok(Line::Sheet(record::read(pit, 0, bytes)?)),
+        Kind::Charge => Ok(Line::Charge(record::read(pit, 0, bytes)?)),
     }
 }

@@ -1,5 +1,4 @@
 //! The set-up: how many boxes a pit has, who leads, which parties there are.
-ghost use Rattle.fault.specs.Verdict.{verdict};
 ghost use Rattle.line.specs.SetUp.{opened, replicas_of, quorum_of, lead_of, client_party, is_replica, is_client, is_lead};
 ghost use Rattle.std.specs.Prelude.{◌≡◌};
 
@@ -24,7 +23,7 @@ pub struct Pit {
 impl Pit {
     /// Sets a pit up: `f` from 1 to 3, in any view.
     pub fn open(f: u8, view: u32) -> Result<Pit, Fault>
-        ensures { verdict result ≡ opened f view }
+        ensures { result ≡ opened f view }
     {
         if f < 1 || f > MOST_FAULTS {
             return Err(Fault::of(Reason::SetUp));

@@ -1,5 +1,1 @@
-pub mod Pieces
-pub mod Wholes
-pub mod Readings
-pub mod Says
 pub mod Returns

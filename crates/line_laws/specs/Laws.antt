@@ -1,21 +1,15 @@
 -- The laws of lines: what is written reads back, what reads was so written, and a text tells its record.
-use Rattle.std.specs.Prelude.{◌≡◌, ℕ, ◌^◌, ◌<◌, true, false, List, slice_index}
-use Rattle.fault.specs.Verdict.{good, bad}
+use Rattle.std.specs.Prelude.{◌≡◌, ℕ, true, false, List, Ok}
+use Rattle.fault.specs.Checks.{refused}
+use Rattle.fault.specs.declared.Reason.TheVariants.{SetUp}
+use Rattle.line.specs.Bytes.{Bytes}
+use Rattle.line.specs.FormsKept.{Held}
 use Rattle.line.specs.Lines as lines
-use Rattle.line.specs.Lines.{called, ordered, answered, certified, marked, printed, charged}
+use Rattle.line.specs.Lines.{passes, called, ordered, answered, certified, marked, printed, charged}
 use Rattle.line.specs.Rules.{in_numbers}
 use Rattle.line.specs.SetUp.{opened, lead_of}
 use Rattle.line.specs.declared.kind.Kinds.{Kinds}
 use Rattle.line.specs.declared.pit.Pit.{Pit}
-use Rattle.line_laws.specs.Passing.{passes}
-
--- every element is a byte
-abbrev pub Bytes : List ℕ → Type 0
-Bytes bs = (i : ℕ) → slice_index bs i < 256
-
--- the numbers of a pit are ones that its memory can hold
-abbrev pub Held : Pit → Type 0
-Held pit = (pit.f < 256) × (pit.view < 2 ^ 32)
 
 -- a machine that takes every kind
 abbrev pub everything : Kinds
@@ -23,11 +17,11 @@ everything = record { call = true; order = true; answer = true; cert = true; com
 
 -- a record that passes checks 3 to 8, written and read, comes back
 abbrev pub ComesBack : Type 0
-ComesBack = (pit : Pit) (m : lines.Model) → Held pit → passes pit m ≡ true → lines.read pit everything (lines.line m) ≡ good m
+ComesBack = (pit : Pit) (m : lines.Model) → Held pit → passes pit m ≡ true → lines.read pit everything (lines.line m) ≡ Ok m
 
 -- a line that reads is the line that its record writes, and its record passes
 abbrev pub IsWritten : Type 0
-IsWritten = (pit : Pit) (taken : Kinds) (bytes : List ℕ) (m : lines.Model) → Bytes bytes → lines.read pit taken bytes ≡ good m
+IsWritten = (pit : Pit) (taken : Kinds) (bytes : List ℕ) (m : lines.Model) → Bytes bytes → lines.read pit taken bytes ≡ Ok m
     → (lines.line m ≡ bytes) × (passes pit m ≡ true)
 
 -- the record with another tag
@@ -47,8 +41,8 @@ TextTells = (pit : Pit) (m n : lines.Model) → Held pit → passes pit m ≡ tr
 
 -- set-ups and ranges, by example
 pub record SetUps : Type 0 where
-  pub none_lying : opened 0 7 ≡ bad 1 0
-  pub four_lying : opened 4 7 ≡ bad 1 0
+  pub none_lying : opened 0 7 ≡ refused SetUp 0
+  pub four_lying : opened 4 7 ≡ refused SetUp 0
   pub lead_of_four : lead_of (record { f = 1; view = 7 }) ≡ 3
   pub lead_of_seven : lead_of (record { f = 2; view = 7 }) ≡ 0
   pub last_place : in_numbers 1000000 ≡ true

@@ -1,3 +1,2 @@
 pub mod DemonstrationKeys
-pub mod Hex
 pub mod KindSets

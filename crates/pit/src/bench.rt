@@ -1,4 +1,6 @@
 //! How long the digests and the lead take, for the benchmark scripts: each result goes into the next input, so that no call can be left out.
+ghost use Rattle.std.specs.Prelude.{◌<◌};
+
 use crate::{orders, seals};
 use digest::{hmac_sha256, sha256};
 use lead::Lead;
@@ -34,6 +36,22 @@ pub(crate) fn show(rt: &HostRuntime) -> anyhow::Result<()> {
     Ok(())
 }
 
+/// The nanoseconds that a round of the work takes on average.
+fn average<F: FnMut() -> anyhow::Result<()>>(
+    rt: &HostRuntime,
+    rounds: usize,
+    mut work: F,
+) -> anyhow::Result<u128>
+    requires some { 0 < rounds }
+    requires callable { F.IsAlwaysCallable work }
+{
+    let start = Instant::now(rt)?;
+    for _ in 0..rounds {
+        work()?;
+    }
+    Ok(start.elapsed(rt)?.as_nanos() / rounds as u128)
+}
+
 /// New CALLs of one tablet at a lead with a card.
 fn lead_calls(rt: &HostRuntime) -> anyhow::Result<u128> {
     let mut lines: Vec<u8> = Vec::new(rt.alloc());
@@ -43,38 +61,34 @@ fn lead_calls(rt: &HostRuntime) -> anyhow::Result<u128> {
     let pit = Pit::open(1, 0)?;
     let mut seal = Card::open(pit.lead(), seals::demonstration_keys()?);
     let mut out: Vec<u8> = vec![in rt.alloc(); 0; step::LEAST_ROOM]?;
-    let start = Instant::now(rt)?;
-    for _ in 0..LEADS {
+    let each = average(rt, LEADS, || {
         let mut lead = Lead::open(1, 0, pit.lead())?;
         for line in lines.as_slice().chunks_exact(call::SIZE) {
             lead.take(&mut seal, line, out.as_mut_slice())?;
         }
-    }
-    Ok(start.elapsed(rt)?.as_nanos() / (LEADS * CALLS as usize) as u128)
+        Ok(())
+    })?;
+    Ok(each / u128::from(CALLS))
 }
 
 fn large_digests(rt: &HostRuntime) -> anyhow::Result<u128> {
     let mut input: Vec<u8> = vec![in rt.alloc(); 0; MEGABYTE]?;
-    let start = Instant::now(rt)?;
-    for _ in 0..LARGE_ROUNDS {
+    average(rt, LARGE_ROUNDS, || {
         let digest = sha256(input.as_slice())?;
         if let Some(first) = input.first_mut() {
             *first = digest[0];
         }
-    }
-    Ok(start.elapsed(rt)?.as_nanos() / LARGE_ROUNDS as u128)
+        Ok(())
+    })
 }
 
 fn small_tags(rt: &HostRuntime) -> anyhow::Result<u128> {
     let key = [7; KEY_LEN];
-    let mut text: Vec<u8> = vec![in rt.alloc(); 0; TEXT_LEN]?;
-    let mut work: Vec<u8> = vec![in rt.alloc(); 0; WORK_LEN]?;
-    let start = Instant::now(rt)?;
-    for _ in 0..SMALL_ROUNDS {
-        let tag = hmac_sha256(&key, text.as_slice(), work.as_mut_slice())?;
-        if let Some(first) = text.first_mut() {
-            *first = tag[0];
-        }
-    }
-    Ok(start.elapsed(rt)?.as_nanos() / SMALL_ROUNDS as u128)
+    let mut text = [0; TEXT_LEN];
+    let mut work = [0; WORK_LEN];
+    average(rt, SMALL_ROUNDS, || {
+        let tag = hmac_sha256(&key, &text, &mut work)?;
+        text[0] = tag[0];
+        Ok(())
+    })
 }

@@ -2,9 +2,9 @@
 ghost use Rattle.pit.specs.KindSets.{and_kind};
 ghost use Rattle.std.specs.Prelude.{◌≡◌};
 
-use crate::hex;
-use crate::hex::Hex;
-use fault::Fault;
+use crate::bytes;
+use crate::bytes::Hex;
+use crate::command::{Trouble, each_line, tell};
 use line::answer::Answer;
 use line::call::Call;
 use line::cert::Cert;
@@ -16,228 +16,161 @@ use line::lines::Line;
 use line::order::Order;
 use line::pit::Pit;
 use line::sheet::Sheet;
-use std::io::{BufRead, BufReader};
 use std::{fmt, io};
 
-/// A CALL, in words.
-#[derive(Drop)]
-struct CallWords<'a> {
-    call: Call<'a>,
+/// Bytes, for printing.
+fn hex(bytes: &[u8]) -> Hex<'_> {
+    Hex { bytes }
 }
 
-impl fmt::Display for CallWords<'_> {
+/// A line or a part of one, in words.
+#[derive(Drop)]
+struct Words<T>(T);
+
+impl fmt::Display for Words<Call<'_>> {
     fn fmt<W: fmt::Write>(&self, f: &mut fmt::Formatter<W>) -> fmt::Result {
-        let sender = self.call.sender;
-        let view = self.call.view;
-        let stamp = self.call.stamp;
-        let body = Hex {
-            bytes: self.call.body,
-        };
-        let tag = Hex {
-            bytes: self.call.tag,
-        };
+        let c = &self.0;
         write!(
             f,
-            "CALL from {sender} view {view} stamp {stamp} body {body} tag {tag}"
+            "CALL from {} view {} stamp {} body {} tag {}",
+            c.sender,
+            c.view,
+            c.stamp,
+            hex(c.body),
+            hex(c.tag)
         )
     }
 }
 
-/// An ORDER and the CALL in it, in words.
-#[derive(Drop)]
-struct OrderWords<'a> {
-    order: Order<'a>,
-}
-
-impl fmt::Display for OrderWords<'_> {
+impl fmt::Display for Words<Order<'_>> {
     fn fmt<W: fmt::Write>(&self, f: &mut fmt::Formatter<W>) -> fmt::Result {
-        let sender = self.order.sender;
-        let view = self.order.view;
-        let place = self.order.place;
-        let history = Hex {
-            bytes: self.order.history,
-        };
-        let tag = Hex {
-            bytes: self.order.tag,
-        };
-        let call = CallWords {
-            call: self.order.call,
-        };
+        let c = &self.0;
         write!(
             f,
-            "ORDER from {sender} view {view} place {place} history {history} tag {tag}: {call}"
+            "ORDER from {} view {} place {} history {} tag {}: {}",
+            c.sender,
+            c.view,
+            c.place,
+            hex(c.history),
+            hex(c.tag),
+            Words(c.call)
         )
     }
 }
 
-/// An ANSWER, in words.
-#[derive(Drop)]
-struct AnswerWords<'a> {
-    answer: Answer<'a>,
-}
-
-impl fmt::Display for AnswerWords<'_> {
+impl fmt::Display for Words<Answer<'_>> {
     fn fmt<W: fmt::Write>(&self, f: &mut fmt::Formatter<W>) -> fmt::Result {
-        let sender = self.answer.sender;
-        let view = self.answer.view;
-        let place = self.answer.place;
-        let history = Hex {
-            bytes: self.answer.history,
-        };
-        let client = self.answer.client;
-        let stamp = self.answer.stamp;
-        let reply = Hex {
-            bytes: self.answer.reply,
-        };
-        let tag = Hex {
-            bytes: self.answer.tag,
-        };
+        let c = &self.0;
         write!(
             f,
-            "ANSWER from {sender} view {view} place {place} history {history} "
+            "ANSWER from {} view {} place {} history {} ",
+            c.sender,
+            c.view,
+            c.place,
+            hex(c.history)
         )?;
-        write!(f, "tablet {client} stamp {stamp} reply {reply} tag {tag}")
+        write!(
+            f,
+            "tablet {} stamp {} reply {} tag {}",
+            c.client,
+            c.stamp,
+            hex(c.reply),
+            hex(c.tag)
+        )
     }
 }
 
-/// A CERT and its entries, in words.
-#[derive(Drop)]
-struct CertWords<'a> {
-    cert: Cert<'a>,
-}
-
-impl fmt::Display for CertWords<'_> {
+impl fmt::Display for Words<Committed<'_>> {
     fn fmt<W: fmt::Write>(&self, f: &mut fmt::Formatter<W>) -> fmt::Result {
-        let sender = self.cert.sender;
-        let view = self.cert.view;
-        let place = self.cert.place;
-        let history = Hex {
-            bytes: self.cert.history,
-        };
-        let client = self.cert.client;
-        let stamp = self.cert.stamp;
-        let reply = Hex {
-            bytes: self.cert.reply,
-        };
-        let tag = Hex {
-            bytes: self.cert.tag,
-        };
+        let c = &self.0;
         write!(
             f,
-            "CERT from {sender} view {view} place {place} history {history} "
+            "COMMITTED from {} view {} place {} history {} ",
+            c.sender,
+            c.view,
+            c.place,
+            hex(c.history)
         )?;
-        write!(f, "tablet {client} stamp {stamp} reply {reply} tag {tag}:")?;
-        for i in 0..self.cert.count {
-            if let Some(answer) = self.cert.answer(i) {
-                let replica = answer.sender;
-                let tag = Hex { bytes: answer.tag };
-                write!(f, " box {replica} tag {tag}")?;
+        write!(
+            f,
+            "tablet {} stamp {} tag {}",
+            c.client,
+            c.stamp,
+            hex(c.tag)
+        )
+    }
+}
+
+impl fmt::Display for Words<Sheet<'_>> {
+    fn fmt<W: fmt::Write>(&self, f: &mut fmt::Formatter<W>) -> fmt::Result {
+        let c = &self.0;
+        write!(
+            f,
+            "SHEET from {} view {} place {} history {} print {} tag {}",
+            c.sender,
+            c.view,
+            c.place,
+            hex(c.history),
+            hex(c.print),
+            hex(c.tag)
+        )
+    }
+}
+
+impl fmt::Display for Words<Charge<'_>> {
+    fn fmt<W: fmt::Write>(&self, f: &mut fmt::Formatter<W>) -> fmt::Result {
+        let c = &self.0;
+        write!(
+            f,
+            "CHARGE from {} view {} tag {}: {}; {}",
+            c.sender,
+            c.view,
+            hex(c.tag),
+            Words(c.first),
+            Words(c.second)
+        )
+    }
+}
+
+impl fmt::Display for Words<Cert<'_>> {
+    fn fmt<W: fmt::Write>(&self, f: &mut fmt::Formatter<W>) -> fmt::Result {
+        let c = &self.0;
+        write!(
+            f,
+            "CERT from {} view {} place {} history {} ",
+            c.sender,
+            c.view,
+            c.place,
+            hex(c.history)
+        )?;
+        write!(
+            f,
+            "tablet {} stamp {} reply {} tag {}:",
+            c.client,
+            c.stamp,
+            hex(c.reply),
+            hex(c.tag)
+        )?;
+        for i in 0..c.count {
+            if let Some(answer) = c.answer(i) {
+                write!(f, " box {} tag {}", answer.sender, hex(answer.tag))?;
             }
         }
         Ok(())
     }
 }
 
-/// A COMMITTED, in words.
-#[derive(Drop)]
-struct CommittedWords<'a> {
-    committed: Committed<'a>,
-}
-
-impl fmt::Display for CommittedWords<'_> {
-    fn fmt<W: fmt::Write>(&self, f: &mut fmt::Formatter<W>) -> fmt::Result {
-        let sender = self.committed.sender;
-        let view = self.committed.view;
-        let place = self.committed.place;
-        let history = Hex {
-            bytes: self.committed.history,
-        };
-        let client = self.committed.client;
-        let stamp = self.committed.stamp;
-        let tag = Hex {
-            bytes: self.committed.tag,
-        };
-        write!(
-            f,
-            "COMMITTED from {sender} view {view} place {place} history {history} "
-        )?;
-        write!(f, "tablet {client} stamp {stamp} tag {tag}")
-    }
-}
-
-/// A SHEET, in words.
-#[derive(Drop)]
-struct SheetWords<'a> {
-    sheet: Sheet<'a>,
-}
-
-impl fmt::Display for SheetWords<'_> {
-    fn fmt<W: fmt::Write>(&self, f: &mut fmt::Formatter<W>) -> fmt::Result {
-        let sender = self.sheet.sender;
-        let view = self.sheet.view;
-        let place = self.sheet.place;
-        let history = Hex {
-            bytes: self.sheet.history,
-        };
-        let print = Hex {
-            bytes: self.sheet.print,
-        };
-        let tag = Hex {
-            bytes: self.sheet.tag,
-        };
-        write!(
-            f,
-            "SHEET from {sender} view {view} place {place} history {history} print {print} tag {tag}"
-        )
-    }
-}
-
-/// A CHARGE and its ORDERs, in words.
-#[derive(Drop)]
-struct ChargeWords<'a> {
-    charge: Charge<'a>,
-}
-
-impl fmt::Display for ChargeWords<'_> {
-    fn fmt<W: fmt::Write>(&self, f: &mut fmt::Formatter<W>) -> fmt::Result {
-        let sender = self.charge.sender;
-        let view = self.charge.view;
-        let tag = Hex {
-            bytes: self.charge.tag,
-        };
-        let first = OrderWords {
-            order: self.charge.first,
-        };
-        let second = OrderWords {
-            order: self.charge.second,
-        };
-        write!(
-            f,
-            "CHARGE from {sender} view {view} tag {tag}: {first}; {second}"
-        )
-    }
-}
-
 /// Prints a line in words.
 fn print_line(rt: &HostRuntime, line: &Line) -> io::Result<()> {
     match line {
-        Line::Call(call) => rt.println(CallWords { call: *call }),
-        Line::Order(order) => rt.println(OrderWords { order: *order }),
-        Line::Answer(answer) => rt.println(AnswerWords { answer: *answer }),
-        Line::Cert(cert) => rt.println(CertWords { cert: *cert }),
-        Line::Committed(committed) => rt.println(CommittedWords {
-            committed: *committed,
-        }),
-        Line::Sheet(sheet) => rt.println(SheetWords { sheet: *sheet }),
-        Line::Charge(charge) => rt.println(ChargeWords { charge: *charge }),
+        Line::Call(call) => rt.println(Words(*call)),
+        Line::Order(order) => rt.println(Words(*order)),
+        Line::Answer(answer) => rt.println(Words(*answer)),
+        Line::Cert(cert) => rt.println(Words(*cert)),
+        Line::Committed(committed) => rt.println(Words(*committed)),
+        Line::Sheet(sheet) => rt.println(Words(*sheet)),
+        Line::Charge(charge) => rt.println(Words(*charge)),
     }
-}
-
-/// Prints a refusal: its number and its offset.
-fn print_refusal(rt: &HostRuntime, fault: Fault) -> io::Result<()> {
-    let number = fault.reason.number();
-    let offset = fault.offset;
-    println!(rt; "refused {number} {offset}")
 }
 
 /// The set with one kind more.
@@ -277,80 +210,39 @@ fn with_kind(kinds: Kinds, kind: Kind) -> Kinds
 }
 
 /// The kinds that a word names: `all`, or their numbers with commas between.
-fn read_kinds(word: &str) -> Option<Kinds> {
+fn read_kinds(word: &str) -> Result<Kinds, Trouble> {
     if word == "all" {
-        return Some(Kinds::ALL);
+        return Ok(Kinds::ALL);
     }
     let mut kinds = Kinds::NONE;
     for part in word.split(',') {
-        let Ok(number) = part.parse::<u16>() else {
-            return None;
-        };
-        kinds = with_kind(kinds, Kind::named(number)?);
+        let kind = Kind::named(part.parse::<u16>()?).ok_or(Trouble::BadCommand)?;
+        kinds = with_kind(kinds, kind);
     }
-    Some(kinds)
+    Ok(kinds)
 }
 
 /// Reads bytes as a line of a pit, and prints what they are.
-fn tell(rt: &HostRuntime, f: u8, view: u32, kinds: Kinds, bytes: &[u8]) -> io::Result<()> {
-    match Pit::open(f, view) {
-        Err(fault) => print_refusal(rt, fault),
-        Ok(pit) => match lines::read(&pit, &kinds, bytes) {
-            Ok(line) => print_line(rt, &line),
-            Err(fault) => print_refusal(rt, fault),
-        },
-    }
+fn read(rt: &HostRuntime, words: &[&str]) -> Result<(), Trouble> {
+    let [f, view, kinds, bytes] = words else {
+        return Err(Trouble::BadCommand);
+    };
+    let bytes = bytes::read(rt.alloc(), bytes)?;
+    let (f, view) = (f.parse::<u64>()?, view.parse::<u32>()?);
+    let kinds = read_kinds(kinds)?;
+    let pit = Pit::open(f.min(255) as u8, view)?;
+    Ok(print_line(rt, &lines::read(&pit, &kinds, bytes.as_slice())?)?)
 }
 
 /// `pit read F VIEW KINDS HEX`.
-pub(crate) fn read_one(
-    rt: &HostRuntime,
-    f: &str,
-    view: &str,
-    kinds: &str,
-    bytes: &str,
-) -> io::Result<()> {
-    let bytes = hex::read(rt.alloc(), bytes)?;
-    match (
-        f.parse::<u64>(),
-        view.parse::<u32>(),
-        read_kinds(kinds),
-        &bytes,
-    ) {
-        (Ok(f), Ok(view), Some(kinds), Some(bytes)) => tell(
-            rt,
-            f.min(255) as u8,
-            view,
-            kinds,
-            bytes.as_slice(),
-        ),
-        _ => println!(rt; "bad command"),
-    }
-}
-
-/// One line of `pit read-many`.
-fn read_words(rt: &HostRuntime, line: &str) -> io::Result<()> {
-    let mut words = line.split(' ');
-    match (
-        words.next(),
-        words.next(),
-        words.next(),
-        words.next(),
-        words.next(),
-    ) {
-        (Some(f), Some(view), Some(kinds), Some(bytes), None) => read_one(
-            rt, f, view, kinds, bytes,
-        ),
-        _ => println!(rt; "bad command"),
-    }
+pub(crate) fn read_one(rt: &HostRuntime, words: &[&str]) -> anyhow::Result<()> {
+    tell(rt, read(rt, words))
 }
 
 /// `pit read-many`: reads `F VIEW KINDS HEX` from each line of standard input.
-pub(crate) fn read_many(rt: &HostRuntime) -> io::Result<()> {
-    let heap = rt.alloc();
-    for line in BufReader::new(heap, rt.stdin())?.lines(heap) {
-        let line = line?;
-        read_words(rt, line.as_str())?;
-    }
-    Ok(())
+pub(crate) fn read_many(rt: &HostRuntime) -> anyhow::Result<()> {
+    each_line(rt, |line| {
+        let words: Vec<&str> = line.split(' ').collect(rt.alloc())?;
+        read(rt, words.as_slice())
+    })
 }

@@ -3,8 +3,9 @@
 #![tactic(auto)]
 
 mod bench;
+mod bytes;
+mod command;
 mod digests;
-mod hex;
 mod lines;
 mod orders;
 mod replay;
@@ -15,6 +16,8 @@ mod vectors;
 mod votes;
 
 use anyhow::anyhow;
+use service::board::Board;
+use service::ledger::Ledger;
 use std::env;
 use std::process::ExitCode;
 
@@ -56,56 +59,25 @@ fn main(rt: HostRuntime) -> ExitCode {
 }
 
 fn run(rt: &HostRuntime) -> anyhow::Result<()> {
-    let mut words = env::args(rt)?;
-    let _program = words.next();
-    let Some(command) = words.next() else {
-        return shift::show(rt);
-    };
-    let (a, b, c, d) = (words.next(), words.next(), words.next(), words.next());
-    if words.next().is_some() {
-        return usage(rt);
-    }
-    match (&a, &b, &c, &d) {
-        (None, None, None, None) => alone(rt, command.as_str()),
-        (Some(a), None, None, None) => with_one(rt, command.as_str(), a.as_str()),
-        (Some(a), Some(b), None, None) => with_two(rt, command.as_str(), a.as_str(), b.as_str()),
-        (Some(a), Some(b), Some(c), Some(d)) if command.as_str() == "read" => {
-            lines::read_one(rt, a.as_str(), b.as_str(), c.as_str(), d.as_str())?;
-            Ok(())
-        }
-        _ => usage(rt),
-    }
-}
-
-fn alone(rt: &HostRuntime, command: &str) -> anyhow::Result<()> {
-    match command {
-        "bench" => bench::show(rt),
-        "digests" => digests::batch(rt),
-        "read-many" => {
-            lines::read_many(rt)?;
-            Ok(())
-        }
-        "replay" => replay::standard_input(rt),
-        "vectors" => vectors::show(rt),
-        _ => usage(rt),
-    }
-}
-
-fn with_one(rt: &HostRuntime, command: &str, word: &str) -> anyhow::Result<()> {
-    match command {
-        "board" => services::board_file(rt, word),
-        "keys" => seals::keys_file(rt, word),
-        "ledger" => services::ledger_file(rt, word),
-        "replay" => replay::file(rt, word),
-        "sha256" => digests::sha256_file(rt, word),
-        _ => usage(rt),
-    }
-}
-
-fn with_two(rt: &HostRuntime, command: &str, word: &str, other: &str) -> anyhow::Result<()> {
-    match command {
-        "hmac" => digests::hmac_file(rt, word, other),
-        "seal" => seals::serve(rt, word, other),
+    let words: Vec<String> = env::args(rt)?.skip(1).collect(rt.alloc())?;
+    let words: Vec<&str> = words.iter().map(|word| word.as_str()).collect(rt.alloc())?;
+    match words.as_slice() {
+        [] => shift::show(rt),
+        ["bench"] => bench::show(rt),
+        ["digests"] => digests::batch(rt),
+        ["read-many"] => lines::read_many(rt),
+        ["replay"] => replay::standard_input(rt),
+        ["vectors"] => vectors::show(rt),
+        ["board", path] => services::file(rt, &mut Board::open(), path),
+        ["keys", path] => seals::keys_file(rt, path),
+        ["ledger", path] => services::file(rt, &mut Ledger::open(), path),
+        ["replay", path] => replay::file(rt, path),
+        ["sha256", path] => digests::sha256_file(rt, path),
+        ["hmac", key, path] => digests::hmac_file(rt, key, path),
+        ["seal", "card", owner] => seals::serve_card(rt, owner),
+        ["seal", "register", rows] => seals::serve_register(rt, rows),
+        ["seal", _, _] => Err(anyhow!("a seal is a card or a register")),
+        ["read", words @ ..] if words.len() == 4 => lines::read_one(rt, words),
         _ => usage(rt),
     }
 }

@@ -1,7 +1,7 @@
 //! The shift's calls as lines, and the lead that puts them in order.
-use crate::hex::Hex;
+use crate::bytes::Hex;
 use crate::seals;
-use crate::shift::{Call, TEXT_SIZE, put};
+use crate::shift::Call;
 use anyhow::anyhow;
 use lead::Lead;
 use line::kind::Kinds;
@@ -63,11 +63,7 @@ pub(crate) fn bare_call(stamp: u32) -> anyhow::Result<[u8; call::SIZE]> {
 
 /// A call with its tablet's tag behind it.
 fn call_line(call: &Call) -> anyhow::Result<[u8; call::SIZE]> {
-    let text = call.text();
     let party = call.party();
-    let tag = Card::open(party, seals::demonstration_keys()?).stamp(party, &text)?;
-    let mut line = [0; call::SIZE];
-    put(&mut line, 0, &text);
-    put(&mut line, TEXT_SIZE, &tag);
-    Ok(line)
+    let tag = Card::open(party, seals::demonstration_keys()?).stamp(party, &call.text()?)?;
+    Ok(call.signed(&tag)?)
 }

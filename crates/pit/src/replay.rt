@@ -1,15 +1,15 @@
 //! Replays a trace: one command a line, one line of answer for each.
-use crate::hex::Hex;
-use crate::{hex, seals};
+use crate::bytes::Hex;
+use crate::command::{Trouble, each_line, tell};
+use crate::{bytes, seals};
 use fault::Fault;
 use lead::Lead;
 use line::pit::Pit;
-use seal::Seal;
 use seal::card::{Card, Key};
 use seal::party::PARTIES;
 use seal::register::{MOST_ROWS, Register};
+use seal::{Seal, TAG_SIZE};
 use std::fs;
-use std::io::{BufRead, BufReader};
 
 /// The room of the outbox until a trace says otherwise: the least that a call asks for.
 const FIRST_ROOM: usize = step::LEAST_ROOM;
@@ -37,52 +37,49 @@ struct Session {
     room: usize,
 }
 
+impl Session {
+    /// A trace that has said nothing yet.
+    fn new() -> Session {
+        Session {
+            opened: None,
+            room: FIRST_ROOM,
+        }
+    }
+
+    /// The pit, once one is opened.
+    fn opened(&mut self) -> Result<&mut Opened, Trouble> {
+        self.opened.as_mut().ok_or(Trouble::BadCommand)
+    }
+}
+
 /// `pit replay FILE`.
 pub(crate) fn file(rt: &HostRuntime, path: &str) -> anyhow::Result<()> {
     let text = fs::read_to_string(rt, path)?;
-    let mut session = Session {
-        opened: None,
-        room: FIRST_ROOM,
-    };
+    let mut session = Session::new();
     for line in text.lines() {
-        execute(rt, &mut session, line)?;
+        tell(rt, execute(rt, &mut session, line))?;
     }
     Ok(())
 }
 
 /// `pit replay`, from standard input.
 pub(crate) fn standard_input(rt: &HostRuntime) -> anyhow::Result<()> {
-    let mut session = Session {
-        opened: None,
-        room: FIRST_ROOM,
-    };
-    for line in BufReader::new(rt.alloc(), rt.stdin())?.lines(rt.alloc()) {
-        let line = line?;
-        execute(rt, &mut session, line.as_str())?;
-    }
-    Ok(())
+    let mut session = Session::new();
+    each_line(rt, |line| execute(rt, &mut session, line))
 }
 
 /// Executes one line of a trace; a line with nothing but a comment says nothing.
-fn execute(rt: &HostRuntime, session: &mut Session, line: &str) -> anyhow::Result<()> {
+fn execute(rt: &HostRuntime, session: &mut Session, line: &str) -> Result<(), Trouble> {
     let command = line.split(COMMENT).next().unwrap_or("");
-    let mut words = command.split_whitespace();
-    let Some(subject) = words.next() else {
-        return Ok(());
-    };
-    let a = words.next().unwrap_or("");
-    let b = words.next().unwrap_or("");
-    let c = words.next().unwrap_or("");
-    let d = words.next().unwrap_or("");
-    if words.next().is_some() {
-        return bad_command(rt);
-    }
-    match subject {
-        "pit" => open(rt, session, a, b, c, d),
-        "room" if b.is_empty() => set_room(rt, session, a),
-        "lead" if c.is_empty() => ask_lead(rt, session, a, b),
-        "seal" if d.is_empty() => ask_seal(rt, session, a, b, c),
-        _ => bad_command(rt),
+    let words: Vec<&str> = command.split_whitespace().collect(rt.alloc())?;
+    match words.as_slice() {
+        [] => Ok(()),
+        ["pit", f, view, seal, "board" | "ledger"] => open(rt, session, f, view, seal),
+        ["room", room] => session.set_room(room),
+        ["lead", "take", line] => lead_take(rt, session, line),
+        ["lead", "show"] => lead_show(rt, session),
+        ["seal", "stamp", party, text] => seal_stamp(rt, session, party, text),
+        _ => Err(Trouble::BadCommand),
     }
 }
 
@@ -92,163 +89,107 @@ fn open(
     session: &mut Session,
     f: &str,
     view: &str,
-    kind: &str,
-    service: &str,
-) -> anyhow::Result<()> {
-    if !matches!(service, "board" | "ledger") {
-        return bad_command(rt);
-    }
-    let (Ok(f), Ok(view), Some(rows)) = (f.parse::<u64>(), view.parse::<u32>(), rows_of(kind))
-    else {
-        return bad_command(rt);
-    };
-    match open_lead(f.min(255) as u8, view) {
-        Ok((lead, number)) => {
-            let register = if rows == 0 {
-                None
-            } else {
-                Some(seals::open_register(rt, rows)?)
-            };
-            let keys = seals::demonstration_keys()?;
-            session.opened = Some(Opened {
-                lead,
-                number,
-                keys,
-                register,
-            });
-            println!(rt; "ok")?;
-            Ok(())
-        }
-        Err(fault) => refused(rt, fault),
-    }
-}
-
-/// How many rows the seals' register has, 0 for cards: `card`, `register`, or `register:ROWS` for a small one.
-fn rows_of(kind: &str) -> Option<usize> {
-    if kind == "card" {
-        return Some(0);
-    }
-    if kind == "register" {
-        return Some(MOST_ROWS);
-    }
-    match kind.strip_prefix("register:")?.parse::<usize>() {
-        Ok(rows) if rows >= 1 && rows <= MOST_ROWS => Some(rows),
-        _ => None,
-    }
-}
-
-fn open_lead(f: u8, view: u32) -> Result<(Lead, u16), Fault> {
+    seal: &str,
+) -> Result<(), Trouble> {
+    let (f, view) = (f.parse::<u64>()?, view.parse::<u32>()?);
+    let rows = rows_of(seal).ok_or(Trouble::BadCommand)?;
+    let f = f.min(255) as u8;
     let number = Pit::open(f, view)?.lead();
-    Ok((Lead::open(f, view, number)?, number))
-}
-
-/// `room N`.
-fn set_room(rt: &HostRuntime, session: &mut Session, room: &str) -> anyhow::Result<()> {
-    match room.parse::<usize>() {
-        Ok(room) if room <= MOST_ROOM => {
-            session.room = room;
-            Ok(())
-        }
-        _ => bad_command(rt),
-    }
-}
-
-/// `lead take HEX` and `lead show`.
-fn ask_lead(rt: &HostRuntime, session: &mut Session, verb: &str, word: &str) -> anyhow::Result<()> {
-    let Some(opened) = &mut session.opened else {
-        return bad_command(rt);
+    let lead = Lead::open(f, view, number)?;
+    let register = match rows {
+        None => None,
+        Some(rows) => Some(seals::open_register(rt, rows)?),
     };
-    match verb {
-        "take" => match hex::read(rt.alloc(), word)? {
-            Some(line) => {
-                let mut out: Vec<u8> = vec![in rt.alloc(); 0; session.room]?;
-                let written = lead_takes(opened, line.as_slice(), out.as_mut_slice());
-                answer(rt, written, out.as_slice())
-            }
-            None => bad_command(rt),
+    session.opened = Some(Opened {
+        lead,
+        number,
+        keys: seals::demonstration_keys()?,
+        register,
+    });
+    Ok(println!(rt; "ok")?)
+}
+
+/// How many rows the seals' register has, if it is one: `card`, `register`, or `register:ROWS` for a small one.
+fn rows_of(seal: &str) -> Option<Option<usize>> {
+    match seal {
+        "card" => Some(None),
+        "register" => Some(Some(MOST_ROWS)),
+        _ => match seal.strip_prefix("register:")?.parse::<usize>() {
+            Ok(rows) if rows >= 1 && rows <= MOST_ROWS => Some(Some(rows)),
+            _ => None,
         },
-        "show" if word.is_empty() => {
-            let place = opened.lead.place();
-            let history = Hex {
-                bytes: opened.lead.history(),
-            };
-            println!(rt; "place {place} history {history}")?;
-            Ok(())
-        }
-        _ => bad_command(rt),
     }
 }
 
-fn lead_takes(opened: &mut Opened, line: &[u8], out: &mut [u8]) -> Result<usize, Fault> {
-    match &mut opened.register {
-        Some(register) => opened.lead.take(register, line, out),
-        None => opened
-            .lead
-            .take(&mut Card::open(opened.number, opened.keys), line, out),
+impl Session {
+    /// `room N`.
+    fn set_room(&mut self, room: &str) -> Result<(), Trouble> {
+        let room = room.parse::<usize>()?;
+        if room > MOST_ROOM {
+            return Err(Trouble::BadCommand);
+        }
+        self.room = room;
+        Ok(())
     }
+}
+
+/// `lead take HEX`.
+fn lead_take(rt: &HostRuntime, session: &mut Session, line: &str) -> Result<(), Trouble> {
+    let room = session.room;
+    let opened = session.opened()?;
+    let line = bytes::read(rt.alloc(), line)?;
+    let mut out: Vec<u8> = vec![in rt.alloc(); 0; room]?;
+    let count = opened.take(line.as_slice(), out.as_mut_slice())?;
+    if count == 0 {
+        return Ok(println!(rt; "ok 0")?);
+    }
+    let written = Hex {
+        bytes: out.as_slice().get(0..count).unwrap_or(out.as_slice()),
+    };
+    Ok(println!(rt; "ok {count} {written}")?)
+}
+
+/// `lead show`.
+fn lead_show(rt: &HostRuntime, session: &mut Session) -> Result<(), Trouble> {
+    let lead = &session.opened()?.lead;
+    let place = lead.place();
+    let history = Hex {
+        bytes: lead.history(),
+    };
+    Ok(println!(rt; "place {place} history {history}")?)
 }
 
 /// `seal stamp PARTY HEX`: stamps a text for a party with that party's seal, so that a trace can make lines of its own.
-fn ask_seal(
+fn seal_stamp(
     rt: &HostRuntime,
     session: &mut Session,
-    verb: &str,
     party: &str,
     text: &str,
-) -> anyhow::Result<()> {
-    let Some(opened) = &mut session.opened else {
-        return bad_command(rt);
-    };
-    let (true, Ok(party), Some(text)) = (
-        verb == "stamp",
-        party.parse::<u16>(),
-        hex::read(rt.alloc(), text)?,
-    ) else {
-        return bad_command(rt);
-    };
-    match stamp(opened, party, text.as_slice()) {
-        Ok(tag) => {
-            let tag = Hex { bytes: &tag };
-            println!(rt; "ok {tag}")?;
-            Ok(())
+) -> Result<(), Trouble> {
+    let opened = session.opened()?;
+    let party = party.parse::<u16>()?;
+    let text = bytes::read(rt.alloc(), text)?;
+    let tag = opened.stamp(party, text.as_slice())?;
+    let tag = Hex { bytes: &tag };
+    Ok(println!(rt; "ok {tag}")?)
+}
+
+impl Opened {
+    /// Has the lead take a line, with the register or with a card of its own.
+    fn take(&mut self, line: &[u8], out: &mut [u8]) -> Result<usize, Fault> {
+        match &mut self.register {
+            Some(register) => self.lead.take(register, line, out),
+            None => self
+                .lead
+                .take(&mut Card::open(self.number, self.keys), line, out),
         }
-        Err(fault) => refused(rt, fault),
     }
-}
 
-fn stamp(opened: &mut Opened, party: u16, text: &[u8]) -> Result<[u8; 32], Fault> {
-    match &mut opened.register {
-        Some(register) => register.stamp(party, text),
-        None => Card::open(party, opened.keys).stamp(party, text),
-    }
-}
-
-/// Prints what a call wrote, or how it was refused.
-fn answer(rt: &HostRuntime, written: Result<usize, Fault>, out: &[u8]) -> anyhow::Result<()> {
-    match written {
-        Ok(0) => {
-            println!(rt; "ok 0")?;
-            Ok(())
+    /// Stamps a text for a party, with the register or with the party's card.
+    fn stamp(&mut self, party: u16, text: &[u8]) -> Result<[u8; TAG_SIZE], Fault> {
+        match &mut self.register {
+            Some(register) => register.stamp(party, text),
+            None => Card::open(party, self.keys).stamp(party, text),
         }
-        Ok(count) => {
-            let bytes = Hex {
-                bytes: out.get(0..count).unwrap_or(out),
-            };
-            println!(rt; "ok {count} {bytes}")?;
-            Ok(())
-        }
-        Err(fault) => refused(rt, fault),
     }
-}
-
-fn refused(rt: &HostRuntime, fault: Fault) -> anyhow::Result<()> {
-    let number = fault.reason.number();
-    let offset = fault.offset;
-    println!(rt; "refused {number} {offset}")?;
-    Ok(())
-}
-
-fn bad_command(rt: &HostRuntime) -> anyhow::Result<()> {
-    println!(rt; "bad command")?;
-    Ok(())
 }

@@ -1,26 +1,18 @@
 //! The embedded shift: calls by named foremen on a board and on a ledger, taken through every layer that there is.
-use crate::hex::Hex;
+use crate::bytes::Hex;
 use crate::{orders, seals, services, votes};
-use digest::{sha256, sha256_two};
+use digest::sha256;
 use fault::Fault;
+use line::call;
+use line::pit::FIRST_CLIENT;
+use line::record::Record;
+use seal::TAG_SIZE;
 use service::board::Board;
 use service::ledger::Ledger;
 use service::reply::told;
 use service::{BODY, PAGE, Service};
 use std::fmt;
-
-/// How many bytes of a call are stamped and linked.
-pub(crate) const TEXT_SIZE: usize = 30;
-
-/// The size and the kind that a call's line tells, and the party number of tablet 0.
-const CALL_SIZE: u16 = 62;
-
-const CALL_KIND: u16 = 1;
-
-const FIRST_TABLET: u16 = 256;
-
-/// The history before place 1.
-const NO_HISTORY: [u8; 32] = [0; 32];
+use step::{CALL_TEXT_SIZE, NO_HISTORY, link};
 
 /// What a foreman asks for.
 #[derive(Clone, Copy)]
@@ -169,12 +161,11 @@ impl Deed {
             Deed::Haul { from, to, weight } => (2, from, to, weight),
             Deed::Weigh { pile } => (3, pile, 0, 0),
         };
-        let mut body = [0; BODY];
-        put(&mut body, 0, &operation.to_le_bytes());
-        put(&mut body, 2, &a.to_le_bytes());
-        put(&mut body, 4, &b.to_le_bytes());
-        put(&mut body, 6, &w.to_le_bytes());
-        body
+        let [o0, o1] = u16::to_le_bytes(operation);
+        let [a0, a1] = u16::to_le_bytes(a);
+        let [b0, b1] = u16::to_le_bytes(b);
+        let [w0, w1, w2, w3] = u32::to_le_bytes(w);
+        [o0, o1, a0, a1, b0, b1, w0, w1, w2, w3, 0, 0, 0, 0, 0, 0]
     }
 }
 
@@ -190,26 +181,30 @@ impl Call {
     }
 
     pub(crate) fn party(self) -> u16 {
-        FIRST_TABLET.saturating_add(self.tablet)
+        FIRST_CLIENT.saturating_add(self.tablet)
     }
 
-    /// The bytes that are stamped and linked: size, kind, sender, view 0, stamp, and the body.
-    pub(crate) fn text(self) -> [u8; TEXT_SIZE] {
-        let mut text = [0; TEXT_SIZE];
-        put(&mut text, 0, &CALL_SIZE.to_le_bytes());
-        put(&mut text, 2, &CALL_KIND.to_le_bytes());
-        put(&mut text, 4, &self.party().to_le_bytes());
-        put(&mut text, 10, &self.stamp.to_le_bytes());
-        put(&mut text, 14, &self.deed.body());
-        text
+    /// The bytes that are stamped and linked.
+    pub(crate) fn text(self) -> Result<[u8; CALL_TEXT_SIZE], Fault> {
+        let mut text = [0; CALL_TEXT_SIZE];
+        self.line(&self.deed.body(), &[]).write_text(&mut text)?;
+        Ok(text)
     }
-}
 
-/// Writes bytes at a place of a text, as far as they fit.
-pub(crate) fn put(text: &mut [u8], at: usize, bytes: &[u8]) {
-    for (i, byte) in bytes.iter().enumerate() {
-        if at < text.len() && i < text.len() - at {
-            text[at + i] = *byte;
+    /// The line, with a tag.
+    pub(crate) fn signed(self, tag: &[u8; TAG_SIZE]) -> Result<[u8; call::SIZE], Fault> {
+        let mut line = [0; call::SIZE];
+        self.line(&self.deed.body(), tag).write(&mut line)?;
+        Ok(line)
+    }
+
+    fn line<'a>(self, body: &'a [u8], tag: &'a [u8]) -> call::Call<'a> {
+        call::Call {
+            sender: self.party(),
+            view: 0,
+            stamp: self.stamp,
+            body,
+            tag,
         }
     }
 }
@@ -223,13 +218,13 @@ pub(crate) fn show(rt: &HostRuntime) -> anyhow::Result<()> {
     println!(rt; "")?;
     println!(rt; "The calls on a board")?;
     let mut board = Board::open();
-    perform_board(rt, &mut board)?;
+    perform(rt, &mut board, &BOARD_SHIFT, &services::BOARD_CODES)?;
     services::show_board(rt, &board)?;
     show_print(rt, &board)?;
     println!(rt; "")?;
     println!(rt; "Other calls on a ledger")?;
     let mut ledger = Ledger::open();
-    perform_ledger(rt, &mut ledger)?;
+    perform(rt, &mut ledger, &LEDGER_SHIFT, &services::LEDGER_CODES)?;
     services::show_piles(rt, &ledger)?;
     show_print(rt, &ledger)?;
     seals::show_shift(rt, &BOARD_SHIFT)?;
@@ -256,15 +251,10 @@ fn state_theorems() {
     lead::laws::runs_are_takes();
 }
 
-/// The history after one more call.
-fn link(history: &[u8; 32], text: &[u8; TEXT_SIZE]) -> Result<[u8; 32], Fault> {
-    sha256_two(history, text)
-}
-
 fn show_histories(rt: &HostRuntime, calls: &[Call]) -> anyhow::Result<()> {
     let mut history = NO_HISTORY;
     for (i, call) in calls.iter().enumerate() {
-        history = link(&history, &call.text())?;
+        history = link(&history, &call.text()?);
         let place = i.saturating_add(1);
         let shown = Hex { bytes: &history };
         println!(rt; "place {place}: {call}, history {shown}")?;
@@ -272,30 +262,21 @@ fn show_histories(rt: &HostRuntime, calls: &[Call]) -> anyhow::Result<()> {
     Ok(())
 }
 
-fn perform_board(rt: &HostRuntime, board: &mut Board) -> anyhow::Result<()> {
-    for call in &BOARD_SHIFT {
-        let (code, value) = told(&board.perform(call.tablet, &call.deed.body()));
-        show_reply(rt, call, code, value, services::board_meaning(code))?;
-    }
-    Ok(())
-}
-
-fn perform_ledger(rt: &HostRuntime, ledger: &mut Ledger) -> anyhow::Result<()> {
-    for call in &LEDGER_SHIFT {
-        let (code, value) = told(&ledger.perform(call.tablet, &call.deed.body()));
-        show_reply(rt, call, code, value, services::ledger_meaning(code))?;
-    }
-    Ok(())
-}
-
-fn show_reply(
+/// Performs calls, and prints what became of each, with what its code means.
+fn perform<S: Service>(
     rt: &HostRuntime,
-    call: &Call,
-    code: u16,
-    value: u32,
-    meaning: &str,
+    service: &mut S,
+    calls: &[Call],
+    meanings: &[&str],
 ) -> anyhow::Result<()> {
-    println!(rt; "{call}: code {code} value {value} ({meaning})")?;
+    for call in calls {
+        let (code, value) = told(&service.perform(call.tablet, &call.deed.body()));
+        let meaning = meanings
+            .get(usize::from(code))
+            .copied()
+            .unwrap_or("no such code");
+        println!(rt; "{call}: code {code} value {value} ({meaning})")?;
+    }
     Ok(())
 }
 

@@ -1,5 +1,5 @@
 //! The worked examples of FIPS 180-4 and RFC 4231, computed and compared.
-use crate::hex::Hex;
+use crate::bytes::Hex;
 use anyhow::anyhow;
 use digest::{hmac_sha256, sha256};
 use std::alloc::{AllocError, Global};

@@ -1,8 +1,9 @@
 -- What a seal is to those who use it: for whom it stamps, how often still, and what it accepts.
 use Rattle.std.specs.Prelude.{◌≡◌, ℕ, ◌-◌, ◌≤◌, Bool, true, false, ◌&&◌, ◌||◌, List, length, Ok, Err, Result, ◌==◌, nat_le, nat_lt}
-use Rattle.fault.specs.Reasons.{number_of}
+use Rattle.fault.specs.Checks.{fault_at}
 use Rattle.fault.specs.declared.Fault.{Fault}
 use Rattle.std.specs.Str.{bytes_eq}
+use Rattle.fault.specs.declared.Reason.TheVariants.{SealNotReady}
 
 -- how many stamps are left
 pub data Left : Type 0 where
@@ -58,11 +59,10 @@ pub record Given (before after : Meaning) (party : ℕ) (text tag : List ℕ) : 
   pub size : length tag ≡ tag_size
   pub becomes : after ≡ stamped before party text tag
 
--- a stamp was refused, by the refusal 12 at 0, and the seal is what it was
+-- 12 at 0: a stamp was refused, and the seal is what it was
 pub record Denied (before after : Meaning) (party : ℕ) (text : List ℕ) (fault : Fault) : Type 0 where
   pub disallowed : may_stamp before party text ≡ false
-  pub number : number_of fault.reason ≡ 12
-  pub offset : fault.offset ≡ 0
+  pub refusal : fault ≡ fault_at SealNotReady 0
   pub same : after ≡ before
 
 -- what a request for a stamp did to the seal and answered

@@ -31,13 +31,11 @@ fn keyed_tag(key: &Key, text: &[u8], work: &mut [u8; WORK_SIZE]) -> Option<[u8; 
     ensures size { IfSome result (λ tag. length tag ≡ tag_size) }
     ensures wiped { work.new ≡ replicate 64 0 }
 {
-    match hmac_sha256(key, text, work) {
-        Ok(tag) => Some(tag),
-        Err(_) => None,
-    }
+    hmac_sha256(key, text, work).ok()
 }
 
 /// 0 if the two are the same. All bytes are compared, so that the time tells nothing of where they part.
+#[tactic(auto, using(crate::proofs::Bytewise::gathered_more, crate::proofs::Bytewise::gathered_all))]
 fn difference(a: &[u8], b: &[u8]) -> u8
     requires { length a.now ≡ length b.now }
     ensures { (result == 0) ≡ bytes_eq a.now b.now }

@@ -2,6 +2,8 @@
 ghost use Rattle.std.specs.Prelude.{◌≤◌, vec_len, vec_capacity};
 ghost use Rattle.seal.specs.Rows.{most_rows};
 
+use thiserror::Error;
+
 mod rows;
 mod sealing;
 
@@ -19,8 +21,10 @@ pub struct Register {
 }
 
 /// Why a register could not be opened.
-#[derive(Clone, Copy)]
+#[derive(Clone, Copy, PartialEq, Eq, Debug, Error)]
 pub enum Unopened {
+    #[error("a register has at most {MOST_ROWS} rows")]
     TooManyRows,
+    #[error("no memory for so many rows")]
     NoMemory,
 }

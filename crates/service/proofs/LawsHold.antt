@@ -5,7 +5,7 @@ use Rattle.service.specs.BoardSteps as b
 use Rattle.service.specs.LedgerSteps as l
 use Rattle.service.specs.Pages.{length_page, piles_again}
 use Rattle.service.specs.Boards.{board_rule, start_spots, trucks_at}
-use Rattle.service.specs.Laws.{BoardLaws, Call, LedgerLaws, Shown, asked, new_board, new_ledger, next_page, page_after}
+use Rattle.service.specs.Laws.{BoardLaws, Call, LedgerLaws, asked, new_board, new_ledger, next_page, page_after}
 use Rattle.service.specs.Ledgers.{ledger_rule, page_of, piles_of, start_piles}
 
 -- what each step keeps holds in the end
@@ -78,6 +78,3 @@ ledger_laws = record {
   refusing = λ calls call bad. (ap page_of (l.refusal_keeps (did calls call) bad) ∙ (ledger_held calls).again, l.refusal_silent (did calls call) bad);
   size = λ calls. omega (arith, ap length (ledger_held calls).again, length_page (piles_of (page_after new_ledger calls)), (ledger_held calls).good.whole);
 }
-
-pub shown : Shown
-shown = record { fifth = refl; there_code = refl; there_value = refl; all_of_it = refl; too_little = refl }

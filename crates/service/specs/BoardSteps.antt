@@ -1,5 +1,5 @@
 -- What one body can do to the board, and what that keeps.
-use Rattle.std.specs.Prelude.{◌≡◌, ℕ, ◌+◌, ◌<◌, ◌≤◌, cond, List, length, Some, ◌==◌, ◌≢◌, nat_lt, slice_index, slice_index_or, slice_set, refl}
+use Rattle.std.specs.Prelude.{◌≡◌, ℕ, ◌+◌, ◌<◌, ◌≤◌, cond, List, length, Some, ◌==◌, ◌≢◌, nat_lt, slice_index, slice_index_or, slice_set, refl, Ok, Err}
 use Rattle.std.proofs.Common.{arith, length-set}
 use Rattle.std.proofs.lemmas.List.{get_or-set_same, get_or-set_other, set-set}
 use Rattle.std.proofs.lemmas.List.Sums.{sum_by-set}
@@ -7,20 +7,19 @@ use Rattle.std.proofs.lemmas.Bool.{ltb-false, leb-false, or_parts, cases_eq}
 use Rattle.std.proofs.lemmas.Bool.Decides.{nat_tests}
 use Rattle.service.specs.Guards.{code_if_both, if_known_both}
 use Rattle.service.specs.Boards.{board_do, board_operation, board_rule, others_at, trucks_at}
-use Rattle.service.specs.Replies.{code_in, code_number, done, refused, reply_bytes, value_in}
+use Rattle.service.specs.Replies.{Reply, code_in, code_number, reply_bytes, value_in}
 use Rattle.service.specs.declared.board.Motion.{Motion}
 use Rattle.service.specs.declared.board.Motion.TheVariants.{Send, Recall, Tell}
 use Rattle.service.specs.declared.body.Fields.{Fields}
 use Rattle.service.specs.declared.reply.Code.{Code}
 use Rattle.service.specs.declared.reply.Code.TheVariants.{Malformed, NoTruck, NoSpot, SpotFull}
-use Rattle.service.specs.declared.reply.Reply.{Reply}
 
 -- the four ways in which a body can end
 pub data Step (spots : List ℕ) (f : Fields) : List ℕ × Reply → Type 0 where
-  refusal : (code : Code) → (code_number code ≢ 0) → Step spots f (spots, refused code)
-  sent : (value : ℕ) → board_operation f.operation ≡ Some Send → f.a < 64 → 1 ≤ f.b → f.b ≤ 31 → others_at f.b f.a spots < 4 → Step spots f (slice_set spots f.a f.b, done value)
-  recalled : board_operation f.operation ≡ Some Recall → f.a < 64 → Step spots f (slice_set spots f.a 0, done 0)
-  told : (value : ℕ) → Step spots f (spots, done value)
+  refusal : (code : Code) → (code_number code ≢ 0) → Step spots f (spots, Err code)
+  sent : (value : ℕ) → board_operation f.operation ≡ Some Send → f.a < 64 → 1 ≤ f.b → f.b ≤ 31 → others_at f.b f.a spots < 4 → Step spots f (slice_set spots f.a f.b, Ok value)
+  recalled : board_operation f.operation ≡ Some Recall → f.a < 64 → Step spots f (slice_set spots f.a 0, Ok 0)
+  told : (value : ℕ) → Step spots f (spots, Ok value)
 
 module _ (spots : List ℕ) (f : Fields) where
   by_motion : (motion : Motion) → board_operation f.operation ≡ Some motion → f.a < 64 → Step spots f (board_do motion f.a f.b spots)

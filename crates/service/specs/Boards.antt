@@ -1,8 +1,8 @@
 -- The board's rule, on the list of the trucks' spots.
-use Rattle.std.specs.Prelude.{ℕ, cond, not, ◌||◌, List, replicate, Some, None, count_by, Option, ◌==◌, nat_eq, nat_le, nat_lt, slice_index, slice_set}
+use Rattle.std.specs.Prelude.{ℕ, cond, not, ◌||◌, List, replicate, Some, None, count_by, Option, ◌==◌, nat_eq, nat_le, nat_lt, slice_index, slice_set, Ok}
 use Rattle.service.specs.Bodies.{unused_zero}
 use Rattle.service.specs.Meaning.{Meaning}
-use Rattle.service.specs.Replies.{done}
+use Rattle.service.specs.Replies.{Reply}
 use Rattle.service.specs.Rules.{code_if, if_known, on_pages}
 use Rattle.service.specs.declared.board.Motion.{Motion}
 use Rattle.service.specs.declared.board.Motion.TheVariants.{Send, Recall, Tell}
@@ -10,7 +10,6 @@ use Rattle.service.specs.declared.body.Fields.{Fields}
 use Rattle.service.specs.declared.body.Uses.{Uses}
 use Rattle.service.specs.declared.body.Uses.TheVariants.{OnlyA, AAndB}
 use Rattle.service.specs.declared.reply.Code.TheVariants.{Malformed, NoTruck, NoSpot, SpotFull}
-use Rattle.service.specs.declared.reply.Reply.{Reply}
 
 -- how many trucks there are, the spots that they can be sent to, and how many of them such a spot holds
 abbrev pub trucks : ℕ
@@ -58,9 +57,9 @@ abbrev pub board_do : Motion → ℕ → ℕ → List ℕ → List ℕ × Reply
 board_do Send a b spots =
     code_if (nat_lt b first_spot || nat_lt last_spot b) NoSpot spots
     (code_if (nat_le spot_room (others_at b a spots)) SpotFull spots
-    (slice_set spots a b, done (trucks_at b (slice_set spots a b))))
-board_do Recall a b spots = (slice_set spots a gate, done 0)
-board_do Tell a b spots = (spots, done (slice_index spots a))
+    (slice_set spots a b, Ok (trucks_at b (slice_set spots a b))))
+board_do Recall a b spots = (slice_set spots a gate, Ok 0)
+board_do Tell a b spots = (spots, Ok (slice_index spots a))
 
 -- the rule: code 1, code 2, then the operation with its codes 3 and 4
 abbrev pub board_rule : List ℕ → Fields → List ℕ × Reply

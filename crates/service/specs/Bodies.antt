@@ -1,5 +1,6 @@
 -- What a body's 16 bytes hold: operation 2, a 2, b 2, w 4, then a tail of six.
-use Rattle.std.specs.Prelude.{ℕ, Bool, true, ◌&&◌, List, [], ◌∷◌, take, drop, ◌==◌}
+use Rattle.std.specs.Prelude.{ℕ, Bool, ◌&&◌, List, take, drop, ◌==◌}
+use Rattle.std.specs.List.{list_all}
 use Rattle.service.specs.Numbers.{two_at, four_at}
 use Rattle.service.specs.declared.body.Fields.{Fields}
 use Rattle.service.specs.declared.body.Uses.{Uses}
@@ -7,8 +8,7 @@ use Rattle.service.specs.declared.body.Uses.TheVariants.{OnlyA, AAndB, AAndW, Al
 
 -- whether every byte is zero
 abbrev pub all_zero : List ℕ → Bool
-all_zero [] = true
-all_zero (byte ∷ bytes) = byte == 0 && all_zero bytes
+all_zero bytes = list_all (λ byte. byte == 0) bytes
 
 -- the fields of a body
 abbrev pub fields_of : List ℕ → Fields

@@ -1,25 +1,25 @@
 -- What one body can do to the ledger, and what that keeps.
-use Rattle.std.specs.Prelude.{◌≡◌, ℕ, zero, suc, ◌+◌, ◌-◌, ◌*◌, ◌<◌, ◌≤◌, List, [], ◌∷◌, length, Some, sum, ◌≢◌, slice_set, refl}
+use Rattle.std.proofs.lemmas.Grind.{common_steps}
+use Rattle.std.specs.Prelude.{◌≡◌, ℕ, zero, suc, ◌+◌, ◌-◌, ◌*◌, ◌<◌, ◌≤◌, List, [], ◌∷◌, length, Some, sum, ◌≢◌, slice_set, refl, Ok, Err}
 use Rattle.std.proofs.Common.{arith, sym, ap, ◌∙◌, length-set}
 use Rattle.std.proofs.lemmas.List.{get_or-set_same, set-get_or, set-set}
 use Rattle.std.proofs.lemmas.List.Sums.{sum_by-set}
 use Rattle.std.proofs.lemmas.Bool.{ltb-false, leb-false}
 use Rattle.service.specs.Guards.{code_if_both, if_known_both}
 use Rattle.service.specs.Ledgers.{Within, hauled, ledger_do, ledger_operation, ledger_rule, lowered, pile, piles_of, raised}
-use Rattle.service.specs.Replies.{code_in, code_number, done, refused, reply_bytes, value_in}
+use Rattle.service.specs.Replies.{Reply, code_in, code_number, reply_bytes, value_in}
 use Rattle.service.specs.declared.ledger.Work.{Work}
 use Rattle.service.specs.declared.ledger.Work.TheVariants.{Dig, Haul, Tell}
 use Rattle.service.specs.declared.body.Fields.{Fields}
 use Rattle.service.specs.declared.reply.Code.{Code}
-use Rattle.service.specs.declared.reply.Code.TheVariants.{Done, Malformed, NoTruck, NoSpot, SpotFull, NoPile, NoTarget, TooLittle, TooMuch}
-use Rattle.service.specs.declared.reply.Reply.{Reply}
+use Rattle.service.specs.declared.reply.Code.TheVariants.{Malformed, NoTruck, NoSpot, SpotFull, NoPile, NoTarget, TooLittle, TooMuch}
 
 -- the four ways in which a body can end
 pub data Step (piles : List ℕ) (f : Fields) : List ℕ × Reply → Type 0 where
-  refusal : (code : Code) → (code_number code ≢ 0) → Step piles f (piles, refused code)
-  dug : (value : ℕ) → ledger_operation f.operation ≡ Some Dig → f.a < 16 → pile f.a piles + f.w ≤ 1000000000 → Step piles f (raised f.a f.w piles, done value)
-  carried : (value : ℕ) → ledger_operation f.operation ≡ Some Haul → f.a < 16 → f.b < 16 → f.w ≤ pile f.a piles → pile f.b (lowered f.a f.w piles) + f.w ≤ 1000000000 → Step piles f (hauled f.a f.b f.w piles, done value)
-  told : (value : ℕ) → ledger_operation f.operation ≡ Some Tell → Step piles f (piles, done value)
+  refusal : (code : Code) → (code_number code ≢ 0) → Step piles f (piles, Err code)
+  dug : (value : ℕ) → ledger_operation f.operation ≡ Some Dig → f.a < 16 → pile f.a piles + f.w ≤ 1000000000 → Step piles f (raised f.a f.w piles, Ok value)
+  carried : (value : ℕ) → ledger_operation f.operation ≡ Some Haul → f.a < 16 → f.b < 16 → f.w ≤ pile f.a piles → pile f.b (lowered f.a f.w piles) + f.w ≤ 1000000000 → Step piles f (hauled f.a f.b f.w piles, Ok value)
+  told : (value : ℕ) → ledger_operation f.operation ≡ Some Tell → Step piles f (piles, Ok value)
 
 module _ (piles : List ℕ) (f : Fields) where
   by_work : (work : Work) → ledger_operation f.operation ≡ Some work → f.a < 16 → Step piles f (ledger_do work f.a f.b f.w piles)
@@ -90,21 +90,14 @@ pub sum_lowered : (piles : List ℕ) (k w : ℕ) → k < length piles → w ≤ 
 sum_lowered piles k w h enough = let e = sum_set piles k (pile k piles - w) h in omega arith
 
 pub sum_hauled : (piles : List ℕ) (a b w : ℕ) → a < length piles → b < length piles → w ≤ pile a piles → sum (hauled a b w piles) ≡ sum piles
-sum_hauled piles a b w ha hb enough =
-    let there : b < length (lowered a w piles) = rw length-set hb in
-    let less = sum_lowered piles a w ha enough in
-    let more = sum_raised (lowered a w piles) b w there in
-    omega arith
+sum_hauled piles a b w ha hb enough = grind (arith, common_steps, length-set, sum_lowered, sum_raised)
 
 -- from a pile to itself
 hauled_same : (piles : List ℕ) (a w : ℕ) → a < length piles → w ≤ pile a piles → hauled a a w piles ≡ piles
-hauled_same piles a w h enough =
-    let back : pile a (lowered a w piles) + w ≡ pile a piles = ap (λ n. n + w) (get_or-set_same piles a (pile a piles - w) 0 h) ∙ omega arith in
-    (set-set piles a (pile a piles - w) (pile a (lowered a w piles) + w) ∙ ap (slice_set piles a) back) ∙ set-get_or piles a 0
+hauled_same piles a w h enough = grind (arith, common_steps, get_or-set_same, set-set, set-get_or)
 
 -- a reply's bytes tell its code
-code_again : (code : Code) → code_in (reply_bytes (refused code)) ≡ code_number code
-code_again Done = refl
+code_again : (code : Code) → code_in (reply_bytes (Err code)) ≡ code_number code
 code_again Malformed = refl
 code_again NoTruck = refl
 code_again NoSpot = refl

@@ -1,10 +1,10 @@
 -- The ledger's rule, on the list of the piles' weights.
-use Rattle.std.specs.Prelude.{ℕ, ◌+◌, ◌-◌, ◌≤◌, Bool, cond, not, List, [], ◌∷◌, replicate, Some, None, Option, ◌==◌, nat_le, nat_lt, slice_index, slice_set}
+use Rattle.std.specs.Prelude.{ℕ, ◌+◌, ◌-◌, ◌≤◌, Bool, cond, not, List, [], ◌∷◌, replicate, Some, None, Option, ◌==◌, nat_le, nat_lt, slice_index, slice_set, Ok}
 use Rattle.std.specs.List.{flat_map}
 use Rattle.service.specs.Bodies.{unused_zero}
 use Rattle.service.specs.Meaning.{Meaning}
 use Rattle.service.specs.Numbers.{four, four_bytes}
-use Rattle.service.specs.Replies.{done}
+use Rattle.service.specs.Replies.{Reply}
 use Rattle.service.specs.Rules.{code_if, if_known, on_pages}
 use Rattle.service.specs.declared.body.Fields.{Fields}
 use Rattle.service.specs.declared.body.Uses.{Uses}
@@ -12,7 +12,6 @@ use Rattle.service.specs.declared.body.Uses.TheVariants.{OnlyA, AAndW, All}
 use Rattle.service.specs.declared.ledger.Work.{Work}
 use Rattle.service.specs.declared.ledger.Work.TheVariants.{Dig, Haul, Tell}
 use Rattle.service.specs.declared.reply.Code.TheVariants.{Malformed, NoPile, NoTarget, TooLittle, TooMuch}
-use Rattle.service.specs.declared.reply.Reply.{Reply}
 
 -- how many piles there are, and the weight that none of them may pass
 abbrev pub all_piles : ℕ
@@ -61,13 +60,13 @@ passes k w piles = nat_lt limit (pile k piles + w)
 abbrev pub ledger_do : Work → ℕ → ℕ → ℕ → List ℕ → List ℕ × Reply
 ledger_do Dig a b w piles =
     code_if (passes a w piles) TooMuch piles
-    (raised a w piles, done (pile a (raised a w piles)))
+    (raised a w piles, Ok (pile a (raised a w piles)))
 ledger_do Haul a b w piles =
     code_if (nat_le all_piles b) NoTarget piles
     (code_if (nat_lt (pile a piles) w) TooLittle piles
     (code_if (passes b w (lowered a w piles)) TooMuch piles
-    (hauled a b w piles, done (pile b (hauled a b w piles)))))
-ledger_do Tell a b w piles = (piles, done (pile a piles))
+    (hauled a b w piles, Ok (pile b (hauled a b w piles)))))
+ledger_do Tell a b w piles = (piles, Ok (pile a piles))
 
 -- the rule: code 1, code 2, then the operation with its codes 3 to 5
 abbrev pub ledger_rule : List ℕ → Fields → List ℕ × Reply

@@ -1,4 +1,5 @@
 -- Pages in buffers, and the ledger's page: what is written is read again.
+use Rattle.std.proofs.lemmas.Grind.{common_steps}
 use Rattle.std.specs.Prelude.{◌≡◌, ℕ, suc, ◌+◌, ◌*◌, ◌/◌, ◌%◌, ◌<◌, ◌≤◌, List, [], ◌∷◌, ◌++◌, length, take, drop, slice_index, refl}
 use Rattle.std.proofs.Math.Nat.{div-add-mod, div-div-eq-div-mul}
 use Rattle.std.proofs.Common.{mod-eq_of_lt, arith, ap, sym, ◌∙◌}
@@ -7,9 +8,8 @@ use Rattle.service.specs.Bodies.{fields_of}
 use Rattle.service.specs.Ledgers.{Within, ledger, ledger_rule, page_of, piles_of}
 use Rattle.service.specs.Meaning.{answered, over_at, over_front, performed}
 use Rattle.service.specs.Numbers.{four, four_bytes}
-use Rattle.service.specs.Replies.{reply_bytes}
+use Rattle.service.specs.Replies.{Reply, reply_bytes}
 use Rattle.service.specs.declared.body.Fields.{Fields}
-use Rattle.service.specs.declared.reply.Reply.{Reply}
 
 -- the front of a buffer that a page was written over
 pub front_of : (page buffer after : List ℕ) (n : ℕ) → n ≡ length page → after ≡ over_front page buffer → take n after ≡ page
@@ -20,12 +20,7 @@ length_page [] = refl
 length_page (p ∷ piles) = let more = length_page piles in omega arith
 
 four_again : (n : ℕ) → n ≤ 1000000000 → four (n % 256) (n / 256 % 256) (n / 65536 % 256) (n / 16777216 % 256) ≡ n
-four_again n h =
-    let second : 256 * (n / 256) + n % 256 ≡ n = div-add-mod n 256 in
-    let third : 256 * (n / 65536) + n / 256 % 256 ≡ n / 256 = rw (← div-div-eq-div-mul n 256 256) (div-add-mod (n / 256) 256) in
-    let fourth : 256 * (n / 16777216) + n / 65536 % 256 ≡ n / 65536 = rw (← div-div-eq-div-mul n 65536 256) (div-add-mod (n / 65536) 256) in
-    let last : n / 16777216 % 256 ≡ n / 16777216 = mod-eq_of_lt (omega arith) in
-    omega arith
+four_again n h = grind (arith, common_steps, div-add-mod, div-div-eq-div-mul, mod-eq_of_lt)
 
 -- the piles of a page are those that it was written from
 pub piles_again : (piles : List ℕ) → Within piles → piles_of (page_of piles) ≡ piles
@@ -55,10 +50,7 @@ written piles buffer before after bytes k h was these put = let more = write_mor
 
 -- all piles are written
 pub written_all : (piles buffer after : List ℕ) (k : ℕ) → length piles ≤ k → k ≤ length piles → after ≡ page_of (take k piles) ++ drop (4 * k) buffer → after ≡ over_front (page_of piles) buffer
-written_all piles buffer after k low high was =
-    let whole = take_all k piles low in
-    let size : length (page_of piles) ≡ 4 * k = length_page piles ∙ omega arith in
-    cc
+written_all piles buffer after k low high was = grind (arith, common_steps, take_all, length_page)
 
 -- the rule on the piles is the rule on the pages
 at_pages : (piles : List ℕ) (f : Fields) (body : List ℕ) → Within piles → f ≡ fields_of body → ledger_rule piles f ≡ ledger_rule (piles_of (page_of piles)) (fields_of body)

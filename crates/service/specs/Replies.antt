@@ -1,13 +1,11 @@
 -- A reply: what became of a body, and a value that is 0 unless it was done.
-use Rattle.std.specs.Prelude.{ℕ, List, [], ◌∷◌, ◌++◌}
+use Rattle.std.specs.Prelude.{◌≡◌, length, refl, ℕ, List, [], ◌∷◌, ◌++◌, Ok, Err, Result}
 use Rattle.service.specs.Numbers.{two_bytes, four_bytes, two_at, four_at}
 use Rattle.service.specs.declared.reply.Code.{Code}
-use Rattle.service.specs.declared.reply.Code.TheVariants.{Done, Malformed, NoTruck, NoSpot, SpotFull, NoPile, NoTarget, TooLittle, TooMuch}
-use Rattle.service.specs.declared.reply.Reply.{Reply}
+use Rattle.service.specs.declared.reply.Code.TheVariants.{Malformed, NoTruck, NoSpot, SpotFull, NoPile, NoTarget, TooLittle, TooMuch}
 
 -- the number of each code, for the board (truck, spot) and for the ledger (pile, target)
 abbrev pub code_number : Code → ℕ
-code_number Done = 0
 code_number Malformed = 1
 code_number NoTruck = 2
 code_number NoPile = 2
@@ -17,17 +15,14 @@ code_number SpotFull = 4
 code_number TooLittle = 4
 code_number TooMuch = 5
 
--- a body that was done, with its value
-abbrev pub done : ℕ → Reply
-done value = record { code = Done; value = value }
+-- what became of a body: done, with its value, or not done
+abbrev pub Reply : Type 0
+Reply = Result ℕ Code
 
--- a body that was not done: the value is 0
-abbrev pub refused : Code → Reply
-refused code = record { code = code; value = 0 }
-
--- the reply's eight bytes: code, value, two zeros
+-- the reply's eight bytes: code, value, two zeros; the value is 0 unless the body was done
 abbrev pub reply_bytes : Reply → List ℕ
-reply_bytes r = two_bytes (code_number r.code) ++ (four_bytes r.value ++ (0 ∷ 0 ∷ []))
+reply_bytes (Ok value) = two_bytes 0 ++ (four_bytes value ++ (0 ∷ 0 ∷ []))
+reply_bytes (Err code) = two_bytes (code_number code) ++ (four_bytes 0 ++ (0 ∷ 0 ∷ []))
 
 -- the code and the value that a reply's bytes tell
 abbrev pub code_in : List ℕ → ℕ
@@ -35,3 +30,8 @@ code_in reply = two_at 0 reply
 
 abbrev pub value_in : List ℕ → ℕ
 value_in reply = four_at 2 reply
+
+-- and there are always eight
+pub length_reply : (reply : Reply) → length (reply_bytes reply) ≡ 8
+length_reply (Ok value) = refl
+length_reply (Err code) = refl

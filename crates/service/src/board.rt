@@ -1,13 +1,16 @@
 //! The board: where each truck stands.
-ghost use Rattle.std.specs.Prelude.{◌≡◌, ◌<◌, slice_set, refl};
+ghost use Rattle.std.specs.Prelude.{◌≡◌, ◌<◌, slice_set};
 ghost use Rattle.service.specs.Boards.{board, board_do, board_operation, board_rule, board_uses, motion_number, start_spots, trucks_at};
+ghost use Rattle.service.specs.declared.reply.Code.TheVariants.{Malformed};
+ghost use Rattle.std.specs.Option.{ok_or};
 ghost use Rattle.service.specs.declared.board.Motion.TheVariants.{Send, Recall};
 ghost use Rattle.std.proofs.Common.{arith};
 ghost use Rattle.service.specs.BoardSteps.{step, keeps_length};
 ghost use Rattle.service.specs.Bodies.{fields_of};
+ghost use Rattle.service.specs.Replies.{length_reply};
 
 use crate::body::{Fields, Uses};
-use crate::reply::{Code, Reply};
+use crate::reply::{Code, Reply, bytes};
 use crate::{BODY, PAGE, REPLY, Service};
 
 /// How many trucks there are.
@@ -23,7 +26,7 @@ pub const FIRST_SPOT: u16 = 1;
 pub const LAST_SPOT: u16 = 31;
 
 /// How many trucks a spot holds; the gate has room for all.
-pub const SPOT_ROOM: u32 = 4;
+pub const SPOT_ROOM: usize = 4;
 
 /// What a tablet can ask of the board.
 #[derive(Clone, Copy)]
@@ -45,18 +48,6 @@ impl Motion {
         }
     }
 
-    /// The operation of that number.
-    pub fn of(number: u16) -> Option<Motion>
-        ensures { result ≡ board_operation number }
-    {
-        match number {
-            1 => Some(Motion::Send),
-            2 => Some(Motion::Recall),
-            3 => Some(Motion::Tell),
-            _ => None,
-        }
-    }
-
     /// Which fields it uses.
     pub fn uses(self) -> Uses
         ensures { result ≡ board_uses self }
@@ -64,6 +55,22 @@ impl Motion {
         match self {
             Motion::Send => Uses::AAndB,
             Motion::Recall | Motion::Tell => Uses::OnlyA,
+        }
+    }
+}
+
+/// The operation of a number, if there is one.
+impl TryFrom<u16> for Motion {
+    type Error = Code;
+
+    ghost try_from_gives = { λ number result. result ≡ ok_or (board_operation number) Malformed };
+
+    fn try_from(number: u16) -> Result<Motion, Code> {
+        match number {
+            1 => Ok(Motion::Send),
+            2 => Ok(Motion::Recall),
+            3 => Ok(Motion::Tell),
+            _ => Err(Code::Malformed),
         }
     }
 }
@@ -96,20 +103,18 @@ impl Board {
     pub fn apply(&mut self, fields: Fields) -> Reply
         ensures { (self.new.spots, result) ≡ board_rule self.old.spots fields }
     {
-        let Some(motion) = Motion::of(fields.operation) else {
-            return Reply::refused(Code::Malformed);
-        };
+        let motion = Motion::try_from(fields.operation)?;
         if !fields.proper(motion.uses()) {
-            return Reply::refused(Code::Malformed);
+            return Err(Code::Malformed);
         }
         let truck = usize::from(fields.a);
         if truck >= TRUCKS {
-            return Reply::refused(Code::NoTruck);
+            return Err(Code::NoTruck);
         }
         match motion {
             Motion::Send => self.send(truck, fields.b),
             Motion::Recall => self.recall(truck),
-            Motion::Tell => Reply::done(u32::from(self.spots[truck])),
+            Motion::Tell => Ok(u32::from(self.spots[truck])),
         }
     }
 
@@ -119,14 +124,14 @@ impl Board {
         ensures { (self.new.spots, result) ≡ board_do Send truck spot self.old.spots }
     {
         if spot < FIRST_SPOT || spot > LAST_SPOT {
-            return Reply::refused(Code::NoSpot);
+            return Err(Code::NoSpot);
         }
         let spot = spot as u8;
         if trucks_at(&moved(&self.spots, truck, GATE), spot) >= SPOT_ROOM {
-            return Reply::refused(Code::SpotFull);
+            return Err(Code::SpotFull);
         }
         self.spots[truck] = spot;
-        Reply::done(trucks_at(&self.spots, spot))
+        Ok(trucks_at(&self.spots, spot) as u32)
     }
 
     /// Calls a truck back to the gate.
@@ -135,7 +140,7 @@ impl Board {
         ensures { (self.new.spots, result) ≡ board_do Recall truck 0 self.old.spots }
     {
         self.spots[truck] = GATE;
-        Reply::done(0)
+        Ok(0)
     }
 }
 
@@ -150,16 +155,10 @@ fn moved(spots: &[u8; TRUCKS], truck: usize, spot: u8) -> [u8; TRUCKS]
 }
 
 /// How many trucks stand at a spot.
-fn trucks_at(spots: &[u8; TRUCKS], spot: u8) -> u32
+fn trucks_at(spots: &[u8; TRUCKS], spot: u8) -> usize
     ensures { result ≡ trucks_at spot spots.now }
 {
-    let mut count = 0;
-    for here in spots {
-        if *here == spot {
-            count += 1;
-        }
-    }
-    count
+    spots.iter().filter(|&&here| here == spot).count()
 }
 
 impl Service for Board {
@@ -169,11 +168,11 @@ impl Service for Board {
         record {
           start_fits = omega arith;
           page_fits = λ page tablet body fits. omega (arith, keeps_length (step page (fields_of body)));
-          reply_fits = λ page tablet body. refl;
+          reply_fits = λ page tablet body. length_reply (board_rule page (fields_of body)).1;
         } };
 
     fn perform(&mut self, _tablet: u16, body: &[u8; BODY]) -> [u8; REPLY] {
-        self.apply(Fields::read(body)).bytes()
+        bytes(self.apply(Fields::read(body)))
     }
 
     fn page(&self, buffer: &mut [u8; PAGE]) -> usize {

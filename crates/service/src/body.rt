@@ -55,10 +55,5 @@ impl Fields {
 fn zeros(bytes: &[u8]) -> bool
     ensures { result ≡ all_zero bytes.now }
 {
-    for byte in bytes {
-        if *byte != 0 {
-            return false;
-        }
-    }
-    true
+    bytes.iter().all(|&byte| byte == 0)
 }

@@ -1,15 +1,18 @@
 //! The ledger: how much lies on each pile.
-ghost use Rattle.std.specs.Prelude.{◌≡◌, ◌+◌, ◌<◌, ◌≤◌, length, if◌then◌else◌, Some, None, refl};
+ghost use Rattle.std.specs.Prelude.{◌≡◌, ◌+◌, ◌<◌, ◌≤◌, length, if◌then◌else◌, Ok, Err};
 ghost use Rattle.service.specs.Ledgers.{Within, ledger, ledger_do, ledger_operation, ledger_rule, ledger_uses, lowered, page_of, passes, pile, raised, start_piles, work_number, piles_of};
 ghost use Rattle.service.specs.Meaning.{over_at, over_front};
+ghost use Rattle.service.specs.declared.reply.Code.TheVariants.{Malformed, TooMuch};
+ghost use Rattle.std.specs.Option.{ok_or};
 ghost use Rattle.service.specs.declared.ledger.Work.TheVariants.{Dig, Haul};
 ghost use Rattle.std.proofs.Common.{arith};
 ghost use Rattle.service.specs.LedgerSteps.{step, keeps_length, held_fits};
 ghost use Rattle.service.specs.Pages.{length_page};
 ghost use Rattle.service.specs.Bodies.{fields_of};
+ghost use Rattle.service.specs.Replies.{length_reply};
 
 use crate::body::{Fields, Uses};
-use crate::reply::{Code, Reply};
+use crate::reply::{Code, Reply, bytes};
 use crate::{BODY, PAGE, REPLY, Service};
 
 /// How many piles there are.
@@ -41,18 +44,6 @@ impl Work {
         }
     }
 
-    /// The operation of that number.
-    pub fn of(number: u16) -> Option<Work>
-        ensures { result ≡ ledger_operation number }
-    {
-        match number {
-            1 => Some(Work::Dig),
-            2 => Some(Work::Haul),
-            3 => Some(Work::Tell),
-            _ => None,
-        }
-    }
-
     /// Which fields it uses.
     pub fn uses(self) -> Uses
         ensures { result ≡ ledger_uses self }
@@ -61,6 +52,22 @@ impl Work {
             Work::Dig => Uses::AAndW,
             Work::Haul => Uses::All,
             Work::Tell => Uses::OnlyA,
+        }
+    }
+}
+
+/// The operation of a number, if there is one.
+impl TryFrom<u16> for Work {
+    type Error = Code;
+
+    ghost try_from_gives = { λ number result. result ≡ ok_or (ledger_operation number) Malformed };
+
+    fn try_from(number: u16) -> Result<Work, Code> {
+        match number {
+            1 => Ok(Work::Dig),
+            2 => Ok(Work::Haul),
+            3 => Ok(Work::Tell),
+            _ => Err(Code::Malformed),
         }
     }
 }
@@ -92,21 +99,19 @@ impl Ledger {
     pub fn apply(&mut self, fields: Fields) -> Reply
         ensures { (self.new.piles, result) ≡ ledger_rule self.old.piles fields }
     {
-        let Some(work) = Work::of(fields.operation) else {
-            return Reply::refused(Code::Malformed);
-        };
+        let work = Work::try_from(fields.operation)?;
         if !fields.proper(work.uses()) {
-            return Reply::refused(Code::Malformed);
+            return Err(Code::Malformed);
         }
         let a = usize::from(fields.a);
         let b = usize::from(fields.b);
         if a >= PILES {
-            return Reply::refused(Code::NoPile);
+            return Err(Code::NoPile);
         }
         match work {
             Work::Dig => self.dig(a, fields.w),
             Work::Haul => self.haul(a, b, fields.w),
-            Work::Tell => Reply::done(self.piles[a]),
+            Work::Tell => Ok(self.piles[a]),
         }
     }
 
@@ -115,11 +120,8 @@ impl Ledger {
         requires { a < 16 }
         ensures { (self.new.piles, result) ≡ ledger_do Dig a 0 w self.old.piles }
     {
-        let Some(after) = raise(&self.piles, a, w) else {
-            return Reply::refused(Code::TooMuch);
-        };
-        self.piles = after;
-        Reply::done(after[a])
+        self.piles = raise(&self.piles, a, w)?;
+        Ok(self.piles[a])
     }
 
     /// Hauls a weight from pile a to pile b, which may be the same.
@@ -128,30 +130,27 @@ impl Ledger {
         ensures { (self.new.piles, result) ≡ ledger_do Haul a b w self.old.piles }
     {
         if b >= PILES {
-            return Reply::refused(Code::NoTarget);
+            return Err(Code::NoTarget);
         }
         if self.piles[a] < w {
-            return Reply::refused(Code::TooLittle);
+            return Err(Code::TooLittle);
         }
-        let Some(after) = raise(&lower(&self.piles, a, w), b, w) else {
-            return Reply::refused(Code::TooMuch);
-        };
-        self.piles = after;
-        Reply::done(after[b])
+        self.piles = raise(&lower(&self.piles, a, w), b, w)?;
+        Ok(self.piles[b])
     }
 }
 
 /// The piles with a weight more in one of them, unless that would pass the limit.
-fn raise(piles: &[u32; PILES], k: usize, w: u32) -> Option<[u32; PILES]>
+fn raise(piles: &[u32; PILES], k: usize, w: u32) -> Result<[u32; PILES], Code>
     requires { k < 16 }
-    ensures { result ≡ (if passes k w piles.now then None else Some (raised k w piles.now)) }
+    ensures { result ≡ (if passes k w piles.now then Err TooMuch else Ok (raised k w piles.now)) }
 {
     if u64::from(piles[k]) + u64::from(w) > LIMIT {
-        return None;
+        return Err(Code::TooMuch);
     }
     let mut after = *piles;
     after[k] += w;
-    Some(after)
+    Ok(after)
 }
 
 /// The piles with a weight less in one of them.
@@ -171,11 +170,11 @@ impl Service for Ledger {
         record {
           start_fits = omega arith;
           page_fits = λ page tablet body fits. omega (arith, keeps_length (step (piles_of page) (fields_of body)), length_page (ledger_rule (piles_of page) (fields_of body)).0, held_fits page);
-          reply_fits = λ page tablet body. refl;
+          reply_fits = λ page tablet body. length_reply (ledger_rule (piles_of page) (fields_of body)).1;
         } };
 
     fn perform(&mut self, _tablet: u16, body: &[u8; BODY]) -> [u8; REPLY] {
-        self.apply(Fields::read(body)).bytes()
+        bytes(self.apply(Fields::read(body)))
     }
 
     fn page(&self, buffer: &mut [u8; PAGE]) -> usize {

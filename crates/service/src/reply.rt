@@ -1,13 +1,12 @@
 //! A reply: a code, a value and two zero bytes, little-endian.
-ghost use Rattle.service.specs.Replies.{code_in, code_number, done, refused, reply_bytes, value_in};
+ghost use Rattle.service.specs.Replies.{code_in, code_number, reply_bytes, value_in};
 ghost use Rattle.std.specs.Prelude.{◌≡◌};
 
 use crate::REPLY;
 
-/// What became of a body: done, or why it changed nothing.
-#[derive(Clone, Copy)]
+/// Why a body changed nothing.
+#[derive(Clone, Copy, PartialEq, Eq, Debug)]
 pub enum Code {
-    Done,
     Malformed,
     NoTruck,
     NoSpot,
@@ -24,7 +23,6 @@ impl Code {
         ensures { result ≡ code_number self }
     {
         match self {
-            Code::Done => 0,
             Code::Malformed => 1,
             Code::NoTruck | Code::NoPile => 2,
             Code::NoSpot | Code::NoTarget => 3,
@@ -34,39 +32,20 @@ impl Code {
     }
 }
 
-/// A reply before it is put into bytes.
-#[derive(Clone, Copy)]
-pub struct Reply {
-    pub code: Code,
-    pub value: u32,
-}
+/// What became of a body: done, with a value, or why it changed nothing.
+pub type Reply = Result<u32, Code>;
 
-impl Reply {
-    /// The body was performed.
-    pub fn done(value: u32) -> Reply
-        ensures { result ≡ done value }
-    {
-        Reply {
-            code: Code::Done,
-            value,
-        }
-    }
-
-    /// The body changed nothing, for this reason. The value is then 0.
-    pub fn refused(code: Code) -> Reply
-        ensures { result ≡ refused code }
-    {
-        Reply { code, value: 0 }
-    }
-
-    /// The reply's eight bytes.
-    pub fn bytes(self) -> [u8; REPLY]
-        ensures { result ≡ reply_bytes self }
-    {
-        let [c0, c1] = self.code.number().to_le_bytes();
-        let [v0, v1, v2, v3] = self.value.to_le_bytes();
-        [c0, c1, v0, v1, v2, v3, 0, 0]
-    }
+/// The reply's eight bytes: code 0 and the value, or the code's number and 0.
+pub fn bytes(reply: Reply) -> [u8; REPLY]
+    ensures { result ≡ reply_bytes reply }
+{
+    let (code, value) = match reply {
+        Ok(value) => (0, value),
+        Err(code) => (code.number(), 0),
+    };
+    let [c0, c1] = u16::to_le_bytes(code);
+    let [v0, v1, v2, v3] = value.to_le_bytes();
+    [c0, c1, v0, v1, v2, v3, 0, 0]
 }
 
 /// The code's number and the value that a reply's bytes tell.

@@ -1,2 +1,2 @@
 pub mod Pastes
-pub mod Sending
+pub mod Carrying

@@ -1,5 +1,5 @@
 -- Parts written one behind the other.
-use Rattle.std.proofs.Common.{◌≡◌, ℕ, ◌+◌, List, ◌++◌, length, take, drop, sym, refl, ap, ◌∙◌, ap₂, zero-add, arith}
+use Rattle.std.proofs.Common.{◌≡◌, ℕ, ◌+◌, List, ◌++◌, length, drop, sym, refl, ap, ◌∙◌, ap₂, zero-add, arith}
 use Rattle.std.proofs.lemmas.List.{append_assoc, length-append, take_at, drop_at, drop-drop}
 use Rattle.step.specs.Outbox.{over_front, pasted}
 
@@ -25,8 +25,3 @@ three_parts t g r out o₁ o₂ o₃ p q s =
 
     whole : length (t ++ (g ++ r)) ≡ length t + length g + length r
     whole = simp length-append (omega arith)
-
--- a write to a part of the outbox, as the checker tells it
-pub put_is : (at k : ℕ) (out part bytes : List ℕ) → part ≡ bytes → k ≡ length bytes → take at out ++ (part ++ drop k (drop at out)) ≡ pasted at bytes out
-put_is at k out part bytes e w =
-    ap₂ (λ (y : List ℕ) (n : ℕ). take at out ++ (y ++ drop n (drop at out))) e w ∙ ap (λ (d : List ℕ). take at out ++ (bytes ++ d)) (drop-drop (length bytes) at out)

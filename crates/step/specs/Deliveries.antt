@@ -1,6 +1,7 @@
 -- What it means to deliver a stamped text into an outbox of any size.
-use Rattle.std.specs.Prelude.{ℕ, ◌+◌, Bool, List, length, MatchBool, Result, nat_le}
+use Rattle.std.specs.Prelude.{ℕ, ◌+◌, Bool, List, length, MatchBool, Result, nat_le, Ok}
 use Rattle.fault.specs.declared.Fault.{Fault}
+use Rattle.fault.specs.declared.Reason.TheVariants.{Room}
 use Rattle.seal.specs.Meaning.{tag_size}
 use Rattle.step.specs.Calls.{World, send, Carried, Refused}
 
@@ -10,4 +11,4 @@ fits text rest out = nat_le (length text + tag_size + length rest) (length out)
 
 -- delivered as a decision to send that; too small an outbox is refused with 2, and nothing changed
 abbrev pub Delivery : ℕ → List ℕ → List ℕ → World (Unit {0}) → World (Unit {0}) → Result ℕ Fault → Type 0
-Delivery party text rest before after r = MatchBool (fits text rest before.out) (Carried party (send tt text rest) before after r) (Refused 2 0 before after r)
+Delivery party text rest before after r = MatchBool (fits text rest before.out) (Carried party (Ok (send tt text rest)) before after r) (Refused Room 0 before after r)

@@ -6,6 +6,10 @@ use Rattle.digest.specs.Sha256.{sha256_of}
 abbrev pub no_history : List ℕ
 no_history = replicate 32 0
 
+-- the input to a history: the former one, and the CALL's text
+abbrev pub link_input : List ℕ → List ℕ → List ℕ
+link_input history call_text = history ++ call_text
+
 -- the history after one more CALL, by the CALL's text
 abbrev pub link : List ℕ → List ℕ → List ℕ
-link history call_text = sha256_of (history ++ call_text)
+link history call_text = sha256_of (link_input history call_text)

@@ -2,3 +2,4 @@ pub mod Calls
 pub mod Deliveries
 pub mod Histories
 pub mod Outbox
+pub mod Steps

@@ -62,6 +62,7 @@ fn has_room(text: usize, rest: usize, room: usize) -> bool
 }
 
 /// Writes three parts, one behind the other, into the front of the outbox.
+#[tactic(auto, using(crate::proofs::Pastes::three_parts))]
 fn write_parts(text: &[u8], tag: &[u8], rest: &[u8], out: &mut [u8])
     requires { length text.now + length tag.now + length rest.now ≤ length out.old }
     ensures { out.new ≡ over_front (text.now ++ (tag.now ++ rest.now)) out.old }
@@ -85,8 +86,5 @@ fn put(out: &mut [u8], at: usize, bytes: &[u8])
 pub fn link(history: &[u8; HISTORY_SIZE], call_text: &[u8; CALL_TEXT_SIZE]) -> [u8; HISTORY_SIZE]
     ensures { result ≡ link history.now call_text.now }
 {
-    match sha256_two(history, call_text) {
-        Ok(linked) => linked,
-        Err(_) => NO_HISTORY,
-    }
+    sha256_two(history, call_text).unwrap()
 }

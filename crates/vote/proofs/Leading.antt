@@ -1,21 +1,10 @@
 -- The first row with which enough boxes agree.
-use Rattle.std.proofs.Common.{◌≡◌, ℕ, zero, suc, ◌+◌, ◌<◌, ◌≤◌, Bool, false, cond, leb, List, [], ◌∷◌, length, get_or, drop, Some, None, Option, sym, refl, ap, ◌∙◌, subst, ⊎_elim, arith}
-use Rattle.std.proofs.lemmas.List.{at_drop_all, at_drop_more}
+use Rattle.std.proofs.lemmas.Grind.{common_steps}
+use Rattle.std.proofs.Common.{◌≡◌, ℕ, zero, suc, ◌<◌, ◌≤◌, Bool, false, cond, leb, List, [], ◌∷◌, get_or, Some, None, Option, sym, refl, subst, ⊎_elim, arith}
 use Rattle.std.proofs.lemmas.Bool.{cases_Bool, leb-true}
 use Rattle.vote.specs.Counting.{leads, first_leading, leading_of, count_of, Lowest}
 
 module _ {V : Type 0} (agree : V → V → Bool) (n : ℕ) where
-  pub leading_more : (all rows : List (Option V)) (i : ℕ) (row : Option V) → i < length rows → row ≡ get_or rows i row
-      → (led : Bool) → leads agree n all row ≡ led
-      → first_leading agree n all (drop i rows) ≡ cond led row (first_leading agree n all (drop (i + 1) rows))
-  leading_more all rows i row within read led told =
-      at_drop_more (first_leading agree n all) rows i row within
-      ∙ ap (λ r. first_leading agree n all (r ∷ drop (i + 1) rows)) (sym read)
-      ∙ ap (λ t. cond t row (first_leading agree n all (drop (i + 1) rows))) told
-
-  pub leading_all : (all rows : List (Option V)) (i : ℕ) → length rows ≤ i → first_leading agree n all (drop i rows) ≡ None
-  leading_all all rows i past = at_drop_all (first_leading agree n all) rows i past
-
   -- `Lowest` of some of the rows
   abbrev Low : List (Option V) → List (Option V) → Option V → Type 0
   Low all rows None = (box : ℕ) → leads agree n all (get_or rows box None) ≡ false
@@ -54,5 +43,4 @@ module _ {V : Type 0} (agree : V → V → Bool) (n : ℕ) where
 
   -- the row found is the lowest box's that leads
   pub leading_lowest : (rows : List (Option V)) (found : Option V) → found ≡ leading_of agree n rows → Lowest agree n rows found
-  leading_lowest rows found e =
-      subst (λ r. Lowest agree n rows r) (sym e) (same_low rows (leading_of agree n rows) (first_lowest rows rows))
+  leading_lowest rows found e = grind (arith, common_steps, same_low, first_lowest)

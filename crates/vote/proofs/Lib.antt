@@ -1,5 +1,3 @@
-mod Listing
 mod Leading
 pub mod Voters
 pub mod Quorum
-pub mod Seats

@@ -1,6 +1,7 @@
 -- Two votes that disagree share no row, so they cannot both have most of the rows.
-use Rattle.std.proofs.Common.{◌≡◌, ℕ, suc, ◌+◌, ◌≤◌, Bool, true, false, cond, List, [], ◌∷◌, length, Some, None, Option, refl, ⊎_elim, arith}
+use Rattle.std.proofs.Common.{◌≡◌, ℕ, suc, ◌+◌, ◌≤◌, Bool, true, false, cond, List, [], ◌∷◌, length, Some, None, Option, refl, ⊎_elim, ◌∙◌, arith}
 use Rattle.std.proofs.lemmas.Bool.{cases_Bool, both_ways}
+use Rattle.std.specs.Cmp.{IsEquivalence}
 use Rattle.vote.specs.Counting.{row_agrees, voters_from, OneQuorum}
 
 -- one box's row counts for at most one of them
@@ -15,13 +16,11 @@ length_cond : (s : Bool) (b : ℕ) (bs : List ℕ) → length (cond s (b ∷ bs)
 length_cond true b bs = refl
 length_cond false b bs = refl
 
-module _ {V : Type 0} (agree : V → V → Bool)
-    (symmetric : (v w : V) → agree v w ≡ true → agree w v ≡ true)
-    (transitive : (u v w : V) → agree u v ≡ true → agree v w ≡ true → agree u w ≡ true) where
+module _ {V : Type 0} (agree : V → V → Bool) (same : IsEquivalence agree) where
   -- no row agrees with both
   never_both : (v w : V) → agree v w ≡ false → (row : Option V) → row_agrees agree v row ≡ true → row_agrees agree w row ≡ true → ⊥
   never_both v w apart None e h = both_ways false refl e
-  never_both v w apart (Some x) e h = both_ways (agree v w) apart (transitive v x w e (symmetric w x h))
+  never_both v w apart (Some x) e h = both_ways (agree v w) apart (same.congr v x w e ∙ same.symm x w ∙ h)
 
   -- so both together have at most all rows
   disjoint : (v w : V) → agree v w ≡ false → (rows : List (Option V)) (box : ℕ)

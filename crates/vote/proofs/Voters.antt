@@ -1,42 +1,20 @@
 -- The boxes whose row agrees with a vote.
-use Rattle.std.proofs.Common.{◌≡◌, ℕ, zero, suc, ◌+◌, ◌<◌, ◌≤◌, Bool, true, false, cond, eqb, List, [], ◌∷◌, length, get_or, drop, None, Option, sym, refl, ap, ◌∙◌, ⊎_elim, arith}
+use Rattle.std.proofs.Common.{◌≡◌, ℕ, zero, suc, ◌+◌, ◌<◌, ◌≤◌, Bool, true, false, cond, eqb, count_by, List, [], ◌∷◌, length, get_or, None, Option, sym, refl, ap, ◌∙◌, arith}
 use Rattle.line.specs.CertLine.{rising}
-use Rattle.std.proofs.lemmas.List.{at_drop_all, at_drop_more}
 use Rattle.std.proofs.lemmas.List.Sums.{sum_by-cons}
-use Rattle.std.proofs.lemmas.Bool.{and_from, cases_Bool, eq-eqb, le-leb, lt-ltb, ne_eqb}
+use Rattle.std.proofs.lemmas.Bool.{and_from, eq-eqb, le-leb, lt-ltb, ne_eqb}
 use Rattle.vote.specs.Counting.{row_agrees, voters_from, voters_of, times, CountedOnce}
 
 module _ {V : Type 0} (agree : V → V → Bool) (v : V) where
-  -- the voters of what is left begin with the box at hand, if its row agrees
-  pub voters_more : (rows : List (Option V)) (i : ℕ) (row : Option V) → i < length rows → row ≡ get_or rows i row
-      → (agreed : Bool) → row_agrees agree v row ≡ agreed
-      → voters_from agree v i (drop i rows)
-      ≡ cond agreed (i ∷ voters_from agree v (i + 1) (drop (i + 1) rows)) (voters_from agree v (i + 1) (drop (i + 1) rows))
-  voters_more rows i row within read agreed told =
-      let next : suc i ≡ i + 1 = omega arith in
-      at_drop_more (voters_from agree v i) rows i row within
-      ∙ ap (λ r. voters_from agree v i (r ∷ drop (i + 1) rows)) (sym read)
-      ∙ ap (λ t. cond t (i ∷ voters_from agree v (suc i) (drop (i + 1) rows)) (voters_from agree v (suc i) (drop (i + 1) rows))) told
-      ∙ ap (λ k. cond agreed (i ∷ voters_from agree v k (drop (i + 1) rows)) (voters_from agree v k (drop (i + 1) rows))) next
-
-  -- past the rows there are none
-  pub voters_all : (rows : List (Option V)) (i : ℕ) → length rows ≤ i → voters_from agree v i (drop i rows) ≡ []
-  voters_all rows i past = at_drop_all (voters_from agree v i) rows i past
-
-  -- so their number is what the row at hand adds, and the number of the rest
-  pub count_more : (rows : List (Option V)) (i : ℕ) (row : Option V) (adds : ℕ) → i < length rows → row ≡ get_or rows i row
-      → adds ≡ cond (row_agrees agree v row) 1 0
-      → (length (voters_from agree v i (drop i rows)) ≡ adds + length (voters_from agree v (i + 1) (drop (i + 1) rows))) × (adds ≤ 1)
-  count_more rows i row adds within read weighs =
-      ⊎_elim
-      (λ told. let one = weighs ∙ ap (λ t. cond t 1 0) told in
-      (omega (arith, one, ap length (voters_more rows i row within read true told)), omega (arith, one)))
-      (λ told. let none = weighs ∙ ap (λ t. cond t 1 0) told in
-      (omega (arith, none, ap length (voters_more rows i row within read false told)), omega (arith, none)))
-      (cases_Bool (row_agrees agree v row))
-
-  pub count_all : (rows : List (Option V)) (i : ℕ) → length rows ≤ i → length (voters_from agree v i (drop i rows)) ≡ 0
-  count_all rows i past = ap length (voters_all rows i past)
+  -- their number is the number of rows that agree
+  pub length_voters : (rows : List (Option V)) (box : ℕ) → length (voters_from agree v box rows) ≡ count_by (row_agrees agree v) rows
+  length_voters [] box = refl
+  length_voters (row ∷ rows) box =
+      elim (row_agrees agree v row) as (λ t. length (cond t (box ∷ voters_from agree v (suc box) rows) (voters_from agree v (suc box) rows)) ≡ cond t 1 0 + count_by (row_agrees agree v) rows) [
+        | true ↦ (let e = length_voters rows (suc box) in omega arith)
+        | false ↦ (let e = length_voters rows (suc box) in omega arith)
+      ]
+      ∙ sym (sum_by-cons (λ r. cond (row_agrees agree v r) 1 0) row rows)
 
   -- they rise
   pub voters_rise : (rows : List (Option V)) (low box end : ℕ) → low ≤ box → box + length rows ≤ end

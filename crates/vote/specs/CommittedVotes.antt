@@ -1,21 +1,23 @@
 -- COMMITTEDs as votes.
-use Rattle.std.specs.Prelude.{Bool, ◌&&◌, ◌==◌}
-use Rattle.fault.specs.Verdict.{Verdict, good, check}
+use Rattle.std.specs.Prelude.{Bool, ◌&&◌, ◌==◌, Ok, Result}
+use Rattle.fault.specs.Checks.{check, ◌>>◌}
+use Rattle.fault.specs.declared.Fault.{Fault}
+use Rattle.fault.specs.declared.Reason.TheVariants.{Room}
 use Rattle.line.specs.CommittedLine.{Model, shaped}
 use Rattle.std.specs.Str.{bytes_eq}
 use Rattle.vote.specs.declared.committed.CommittedVote.{CommittedVote}
 
--- the vote that a COMMITTED is, or refusal 2 where a part has not its width
-abbrev pub committed_vote : Model → Verdict CommittedVote
-committed_vote m = check (shaped m) 2 0 (good (record {
+-- the vote that a COMMITTED of the right shape is
+abbrev pub committed_row : Model → CommittedVote
+committed_row m = record {
   sender = m.sender;
-  place = m.place;
-  history = m.history;
-  client = m.client;
-  stamp = m.stamp;
-}))
+  claim = record { place = m.place; history = m.history; client = m.client; stamp = m.stamp };
+}
+
+-- the vote that a COMMITTED is, or refusal 2 where a part has not its width
+abbrev pub committed_vote : Model → Result CommittedVote Fault
+committed_vote m = check (shaped m) Room 0 >> Ok (committed_row m)
 
 -- two COMMITTEDs agree in all that stands between header and tag: place, history, tablet and stamp
 abbrev pub committeds_agree : CommittedVote → CommittedVote → Bool
-committeds_agree v w =
-    (v.place == w.place) && (bytes_eq v.history w.history && (v.client == w.client && v.stamp == w.stamp))
+committeds_agree v w = (v.claim.place == w.claim.place) && (bytes_eq v.claim.history w.claim.history && ((v.claim.client == w.claim.client) && (v.claim.stamp == w.claim.stamp)))

@@ -1,6 +1,8 @@
 -- Rows of votes, one for each box, and how they are counted. A kind of vote is told by its agreement.
-use Rattle.std.specs.Prelude.{◌≡◌, ℕ, suc, ◌+◌, ◌*◌, ◌<◌, ◌≤◌, Bool, true, false, cond, not, ◌&&◌, List, [], ◌∷◌, ◌++◌, length, take, drop, replicate, is_some, Some, None, count_by, Option, nat_eq, nat_le, nat_lt, slice_index_or, slice_set}
-use Rattle.fault.specs.Verdict.{Verdict, good, check}
+use Rattle.std.specs.Prelude.{◌≡◌, ℕ, suc, ◌+◌, ◌*◌, ◌<◌, ◌≤◌, Bool, true, false, cond, not, ◌&&◌, List, [], ◌∷◌, ◌++◌, length, take, drop, replicate, is_some, Some, None, count_by, Option, nat_eq, nat_le, nat_lt, slice_index_or, slice_set, Result}
+use Rattle.fault.specs.Checks.{check, ◌>>◌}
+use Rattle.fault.specs.declared.Fault.{Fault}
+use Rattle.fault.specs.declared.Reason.TheVariants.{Room, Sender, Twice, NoQuorum}
 use Rattle.line.specs.CertLine.{rising}
 
 -- the row of a box; a box past the rows has none
@@ -12,16 +14,18 @@ abbrev pub has_row : {V : Type 0} → List (Option V) → ℕ → Bool
 has_row rows box = is_some (row_of rows box)
 
 -- what replacing a box's row answers: 7 where no row is meant for the box
-abbrev pub replaced : {V : Type 0} → List (Option V) → ℕ → Verdict (Unit {0})
-replaced rows box = check (nat_lt box (length rows)) 7 0 (good tt)
+abbrev pub replaced : {V : Type 0} → List (Option V) → ℕ → Result (Unit {0}) Fault
+replaced rows box = check (nat_lt box (length rows)) Sender 0
 
 -- the rows then: the box's row is the vote, and all else is as it was; past the rows nothing is set
 abbrev pub rows_replaced : {V : Type 0} → List (Option V) → ℕ → V → List (Option V)
 rows_replaced rows box v = slice_set rows box (Some v)
 
 -- what adding a vote of a box answers: 22 where the box has a row already
-abbrev pub added : {V : Type 0} → List (Option V) → ℕ → Verdict (Unit {0})
-added rows box = check (not (has_row rows box)) 22 0 (replaced rows box)
+abbrev pub added : {V : Type 0} → List (Option V) → ℕ → Result (Unit {0}) Fault
+added rows box = do
+  check (not (has_row rows box)) Twice 0
+  replaced rows box
 
 -- the rows then: a row that was there stays
 abbrev pub rows_added : {V : Type 0} → List (Option V) → ℕ → V → List (Option V)
@@ -88,8 +92,10 @@ abbrev pub roomy : {V : Type 0} → ℕ → List (Option V) → List ℕ → Boo
 roomy n rows out = nat_le n (length out) && nat_le (length rows) most_boxes
 
 -- what asking for the n lowest boxes that agree answers: 2 where they have no room, 23 where fewer agree
-abbrev pub listed : {V : Type 0} → (V → V → Bool) → V → ℕ → List (Option V) → List ℕ → Verdict (Unit {0})
-listed agree v n rows out = check (roomy n rows out) 2 0 (check (enough agree v n rows) 23 0 (good tt))
+abbrev pub listed : {V : Type 0} → (V → V → Bool) → V → ℕ → List (Option V) → List ℕ → Result (Unit {0}) Fault
+listed agree v n rows out = do
+  check (roomy n rows out) Room 0
+  check (enough agree v n rows) NoQuorum 0
 
 -- what the memory holds then: these boxes in front, rising, and the rest as it was; all as it was where it is refused
 abbrev pub memory_listed : {V : Type 0} → (V → V → Bool) → V → ℕ → List (Option V) → List ℕ → List ℕ

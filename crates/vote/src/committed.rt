@@ -1,42 +1,48 @@
 //! A box's COMMITTED as a vote: which call it holds for good, at which place and history.
-ghost use Rattle.fault.specs.Verdict.{verdict};
 ghost use Rattle.line.specs.CommittedLine.{shown};
 ghost use Rattle.vote.specs.CommittedVotes.{committed_vote, committeds_agree};
+ghost use Rattle.std.specs.Cmp.Rules.{comparing};
 ghost use Rattle.std.specs.Prelude.{◌≡◌};
-ghost use Rattle.std.proofs.Common.{arith};
-ghost use Rattle.std.proofs.lemmas.Bool.Decides.{nat_tests};
-ghost use Rattle.vote.specs.Same.{same_refl, same_sym, same_trans};
+ghost use Rattle.std.proofs.Common.{rules};
 
-use crate::bytes::{array, same};
+use crate::bytes::array;
 use crate::{Sent, Vote};
 use fault::{Fault, Reason};
 use line::committed::Committed;
 use line::layout::{HISTORY_WIDTH, TAG_WIDTH};
 
-/// What a box holds for good.
-#[derive(Clone, Copy)]
-pub struct CommittedVote {
-    pub sender: u16,
+/// What a COMMITTED claims.
+#[derive(Clone, Copy, PartialEq, Eq, Debug)]
+pub struct CommittedClaim {
     pub place: u32,
     pub history: [u8; HISTORY_WIDTH],
     pub client: u16,
     pub stamp: u32,
 }
 
+/// What a box holds for good.
+#[derive(Clone, Copy, Debug)]
+pub struct CommittedVote {
+    pub sender: u16,
+    pub claim: CommittedClaim,
+}
+
 impl CommittedVote {
     /// The vote that a COMMITTED is; refused where a part has not its width.
     pub fn of(line: &Committed<'_>) -> Result<CommittedVote, Fault>
-        ensures { verdict result ≡ committed_vote (shown line.now) }
+        ensures { result ≡ committed_vote (shown line.now) }
     {
         if line.tag.len() != TAG_WIDTH {
             return Err(Fault::of(Reason::Room));
         }
         Ok(CommittedVote {
             sender: line.sender,
-            place: line.place,
-            history: array(line.history)?,
-            client: line.client,
-            stamp: line.stamp,
+            claim: CommittedClaim {
+                place: line.place,
+                history: array(line.history)?,
+                client: line.client,
+                stamp: line.stamp,
+            },
         })
     }
 }
@@ -49,19 +55,13 @@ impl Sent for CommittedVote {
     }
 }
 
+/// Two COMMITTEDs agree in all that stands between header and tag: place, history, tablet and stamp.
 impl Vote for CommittedVote {
     ghost agree = { committeds_agree };
 
-    ghost reflexive = { λ v. Prim.grind (arith, nat_tests, same_refl) };
-
-    ghost symmetric = { λ v w e. Prim.grind (arith, nat_tests, same_sym v.history w.history) };
-
-    ghost transitive = { λ u v w e h. Prim.grind (arith, nat_tests, same_trans u.history v.history w.history) };
+    ghost equivalence = { Prim.search (comparing, rules) };
 
     fn agrees(&self, other: &CommittedVote) -> bool {
-        self.place == other.place
-            && same(&self.history, &other.history)
-            && self.client == other.client
-            && self.stamp == other.stamp
+        self.claim == other.claim
     }
 }

@@ -2,7 +2,8 @@
 
 #![tactic(auto)]
 
-ghost use Rattle.std.specs.Prelude.{◌≡◌, ℕ, Bool, true};
+ghost use Rattle.std.specs.Prelude.{◌≡◌, ℕ, Bool};
+ghost use Rattle.std.specs.Cmp.{IsEquivalence};
 
 pub mod answer;
 mod bytes;
@@ -27,9 +28,5 @@ pub trait Vote: Sent {
     fn agrees(&self, other: &Self) -> bool
         ensures { result ≡ agree self.now other.now };
 
-    ghost reflexive: { (v : Self) → agree v v ≡ true };
-
-    ghost symmetric: { (v w : Self) → agree v w ≡ true → agree w v ≡ true };
-
-    ghost transitive: { (u v w : Self) → agree u v ≡ true → agree v w ≡ true → agree u w ≡ true };
+    ghost equivalence: { IsEquivalence agree };
 }

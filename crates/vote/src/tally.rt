@@ -1,7 +1,6 @@
 //! The tally: one row for each box, in memory that is lent, and what the rows say together.
-ghost use Rattle.fault.specs.Verdict.{verdict};
 ghost use Rattle.vote.specs.Counting.{row_of, has_row, added, rows_added, replaced, rows_replaced, row_agrees, voters_of, count_of, CountedOnce, leads, leading_of, Lowest, most_boxes, listed, memory_listed, OneQuorum, SeatsKept};
-ghost use Rattle.std.specs.Prelude.{◌≡◌, ◌<◌, ◌≤◌, length, take, if◌then◌else◌, slice_set};
+ghost use Rattle.std.specs.Prelude.{◌≡◌, ◌<◌, ◌≤◌, length, take, slice_set};
 
 use crate::Vote;
 use fault::{Fault, Reason};
@@ -28,12 +27,7 @@ impl<'a, V: Vote + Copy> Tally<'a, V> {
     pub fn row(&self, replica: u16) -> Option<V>
         ensures { result ≡ row_of self.now.rows.now replica }
     {
-        let rows = &*self.rows;
-        let at = replica as usize;
-        if at >= rows.len() {
-            return None;
-        }
-        rows[at]
+        self.rows.get(usize::from(replica)).copied().flatten()
     }
 
     /// Has the box a row?
@@ -45,7 +39,7 @@ impl<'a, V: Vote + Copy> Tally<'a, V> {
 
     /// Makes a vote the row of the box that sent it, unless the box has a row already.
     pub fn add(&mut self, vote: V) -> Result<(), Fault>
-        ensures answer { verdict result ≡ added self.old.rows.now (V.Sent.origin vote) }
+        ensures answer { result ≡ added self.old.rows.now (V.Sent.origin vote) }
         ensures after { self.new.rows.now ≡ rows_added self.old.rows.now (V.Sent.origin vote) vote }
         ensures lender { self.new.rows.ghost_name ≡ self.old.rows.ghost_name }
     {
@@ -57,7 +51,7 @@ impl<'a, V: Vote + Copy> Tally<'a, V> {
 
     /// Makes a vote the row of the box that sent it, whatever the row was.
     pub fn replace(&mut self, vote: V) -> Result<(), Fault>
-        ensures answer { verdict result ≡ replaced self.old.rows.now (V.Sent.origin vote) }
+        ensures answer { result ≡ replaced self.old.rows.now (V.Sent.origin vote) }
         ensures after { self.new.rows.now ≡ rows_replaced self.old.rows.now (V.Sent.origin vote) vote }
         ensures lender { self.new.rows.ghost_name ≡ self.old.rows.ghost_name }
     {
@@ -78,6 +72,7 @@ impl<'a, V: Vote + Copy> Tally<'a, V> {
     }
 
     /// The row of the lowest box with which at least `n` boxes agree.
+    #[tactic(auto, using(crate::proofs::Leading::leading_lowest))]
     pub fn leading(&self, n: usize) -> Option<V>
         ensures row { result ≡ leading_of V.agree n self.now.rows.now }
         ensures lowest { Lowest V.agree n self.now.rows.now result }
@@ -87,7 +82,7 @@ impl<'a, V: Vote + Copy> Tally<'a, V> {
 
     /// Writes the `n` lowest boxes that agree with the vote into the front of the memory, rising.
     pub fn voters(&self, vote: &V, n: usize, out: &mut [u16]) -> Result<(), Fault>
-        ensures answer { verdict result ≡ listed V.agree vote.now n self.now.rows.now out.old }
+        ensures answer { result ≡ listed V.agree vote.now n self.now.rows.now out.old }
         ensures after { out.new ≡ memory_listed V.agree vote.now n self.now.rows.now out.old }
     {
         let rows = &*self.rows;
@@ -112,22 +107,12 @@ fn row_agrees<V: Vote>(vote: &V, row: &Option<V>) -> bool
     }
 }
 
-/// What a row adds to the count: one if it agrees.
-fn weight<V: Vote>(vote: &V, row: &Option<V>) -> usize
-    ensures { result ≡ (if row_agrees V.agree vote.now row.now then 1 else 0) }
-{
-    if row_agrees(vote, row) { 1 } else { 0 }
-}
-
 /// How many rows agree with the vote.
+#[tactic(auto, using(crate::proofs::Voters::length_voters))]
 fn count<V: Vote>(rows: &[Option<V>], vote: &V) -> usize
     ensures { result ≡ count_of V.agree vote.now rows.now }
 {
-    let mut n = 0;
-    for row in rows {
-        n += weight(vote, row);
-    }
-    n
+    rows.iter().filter(|row| row_agrees(vote, row)).count()
 }
 
 /// Is there a vote in the row, with which at least `n` rows agree?
@@ -193,15 +178,17 @@ pub fn one_quorum<V: Vote>()
 mod tests {
     use super::*;
     use crate::Sent;
-    use crate::answer::AnswerVote;
+    use crate::answer::{AnswerClaim, AnswerVote};
     use std::test::Fail;
 
     fn answer(sender: u16, reply: u8) -> AnswerVote {
         AnswerVote {
             sender,
-            place: 1,
-            history: [7; 32],
-            reply: [reply; 8],
+            claim: AnswerClaim {
+                place: 1,
+                history: [7; 32],
+                reply: [reply; 8],
+            },
             tag: [0; 32],
         }
     }

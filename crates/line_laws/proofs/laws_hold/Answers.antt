@@ -1,11 +1,10 @@
--- The laws are proved in the files beside.
-use Rattle.line_laws.proofs.Readings.{line_whole, line_passes}
-use Rattle.line_laws.proofs.Returns.{comes_back, text_tells}
+-- The laws are proved in the file beside.
+use Rattle.line_laws.proofs.Returns.{comes_back_line, is_written_line, text_tells}
 use Rattle.line_laws.proofs.laws_hold.Goals as goal
 
 pub returns : goal.returns
 returns c = record {
-  comes_back = λ pit m held h. comes_back pit held m h;
-  is_written = λ pit t bs m h e. (line_whole pit t bs m h e, line_passes pit t bs m h e);
+  comes_back = λ pit m held h. comes_back_line pit held m h;
+  is_written = is_written_line;
   text_tells = text_tells;
 }

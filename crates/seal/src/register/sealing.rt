@@ -3,7 +3,6 @@ ghost use Rattle.seal.specs.Meaning.{may_stamp, same_triple};
 ghost use Rattle.seal.specs.Opening.{Opening};
 ghost use Rattle.seal.specs.Rows.{entries_of, register_meaning, row_entry, row_tag};
 ghost use Rattle.std.specs.Prelude.{◌≡◌, ◌-◌, length};
-ghost use Rattle.std.specs.Str.{bytes_eq};
 ghost use Rattle.seal.specs.Told.{register_discerns};
 
 use crate::register::rows::{Row, row_of, row_party, row_tag, row_text};
@@ -12,18 +11,11 @@ use crate::{LONGEST_TEXT, Seal, TAG_SIZE, party};
 use fault::{Fault, Reason};
 use std::alloc::Global;
 
-/// Are these the same bytes?
-fn same(a: &[u8], b: &[u8]) -> bool
-    ensures { result ≡ bytes_eq a.now b.now }
-{
-    a == b
-}
-
 /// Does the row of that number tell the party and the text under that tag?
 fn tells(row: &Row, number: u32, party: u16, text: &[u8], tag: &[u8]) -> bool
     ensures { result ≡ same_triple party text.now tag.now (row_entry row.now).party (row_entry row.now).text (row_tag number) }
 {
-    party == row_party(row) && same(text, row_text(row)) && same(tag, &row_tag(number))
+    party == row_party(row) && text == row_text(row) && tag == row_tag(number).as_slice()
 }
 
 impl Register {

@@ -1,6 +1,7 @@
-use Rattle.std.proofs.Common.{◌≡◌, ◌/◌, ◌++◌, length, refl, arith}
+use Rattle.std.proofs.lemmas.Grind.{common_steps}
+use Rattle.std.proofs.Common.{refl, arith}
 use Rattle.std.proofs.lemmas.List.{length-append}
-use Rattle.digest.specs.Sha256.{padded, hashed, sha256_of}
+use Rattle.digest.specs.Sha256.{hashed, sha256_of}
 use Rattle.digest.proofs.Blocks.{hashed_more, length_padded}
 use Rattle.digest.proofs.hash.digest.Goals as goal
 
@@ -9,11 +10,8 @@ unfolding hashed
 loop-i-init c = refl
 
 pub loop-i-preserved : goal.loop-i-preserved
-loop-i-preserved c = let more = hashed_more (padded (c.args.first.now ++ c.args.second.now)) c.loop-i.i in cc c.loop-i.invariant
+loop-i-preserved c = grind (arith, common_steps, hashed_more)
 
 pub returns : goal.returns
 unfolding sha256_of
-returns c =
-    let m = c.args.first.now ++ c.args.second.now in
-    let end : c.loop-i.i ≡ length (padded m) / 64 = omega (arith, length_padded m, length-append c.args.first.now c.args.second.now) in
-    cc c.loop-i.invariant
+returns c = grind (arith, common_steps, length-append, length_padded)

@@ -1,0 +1,190 @@
+//! What is the same for every kind of lines: writing a record, and checks 3 to 8.
+ghost use Rattle.fault.specs.Checks.{result_map};
+ghost use Rattle.line.specs.Forms.{Form as FormOf, shaped as shaped_in, line as line_in, text as text_in, tag_at as tag_at_in, size_of, size_in, fields_in, checked as checked_in, read as read_as, read_inside as read_inside_as};
+ghost use Rattle.line.specs.FormsKept.{ComesBack, IsWritten, EndsAtTag, Shows, comes_back as comes_back_by, is_written as is_written_by, text_long as long_by};
+ghost use Rattle.line.specs.Rules.{sized, written, memory_after};
+ghost use Rattle.std.specs.Prelude.{◌≡◌, ℕ, ◌+◌, ◌^◌, ◌<◌, ◌≤◌, ◌++◌, true, length, take, OnOk};
+
+use crate::layout::*;
+use crate::pit::Pit;
+use fault::{Fault, Reason};
+
+/// The form of one kind: how its record lies in a line.
+pub(crate) trait Form: Copy {
+    /// What a line of the kind says.
+    ghost Model: { Type 0 };
+
+    /// What the record shows.
+    ghost shown: { Self → Model };
+
+    /// The kind.
+    ghost form: { FormOf Model };
+
+    /// The parts of the text have their widths.
+    fn text_shaped(&self) -> bool
+        ensures { result ≡ form.text_shaped (shown self.now) };
+
+    /// Where the tag begins, behind the text.
+    fn tag_at(&self) -> usize
+        ensures value { result ≡ tag_at_in form (form.count (shown self.now)) }
+        ensures few { result < 2 ^ 32 };
+
+    /// The sender.
+    fn sender(&self) -> u16
+        ensures { result ≡ form.sender (shown self.now) };
+
+    /// The tag.
+    fn tag(&self) -> &[u8]
+        ensures { result.now ≡ form.tag (shown self.now) };
+
+    /// Fills memory of just its size with the text.
+    fn fill(&self, out: &mut [u8])
+        requires shape { form.text_shaped (shown self.now) ≡ true }
+        requires room { length out.old ≡ tag_at_in form (form.count (shown self.now)) }
+        ensures { out.new ≡ text_in form (shown self.now) };
+
+    /// What the kind shows of its form, for the laws of lines.
+    ghost kept: { Shows form };
+}
+
+/// How the record of one kind is read from the bytes of a line, in which its parts lie.
+pub(crate) trait FromLine<'a>: Form {
+    /// Checks 5 to 8 on the line itself, that begins at that byte.
+    fn check_itself(pit: &Pit, at: usize, bytes: &'a [u8]) -> Result<(), Fault>
+        ensures checks { result ≡ checked_in Self.form pit.now at bytes.now }
+        ensures size { OnOk result (length bytes.now ≡ size_in Self.form pit.now) };
+
+    /// Checks 3 to 8 on the lines inside one that begins at that byte.
+    fn check_inside(pit: &Pit, at: usize, bytes: &'a [u8]) -> Result<(), Fault>
+        requires size { length bytes.now ≡ size_in Self.form pit.now }
+        requires near { at + length bytes.now < 2 ^ 64 }
+        ensures { result ≡ Self.form.inside pit.now at bytes.now };
+
+    /// What the bytes say.
+    fn of(pit: &Pit, bytes: &'a [u8]) -> Self
+        requires { length bytes.now ≡ size_in Self.form pit.now }
+        ensures { Self.shown result ≡ fields_in Self.form pit.now bytes.now };
+}
+
+/// What a line of one kind says.
+pub trait Record {
+    /// What a line of the kind says.
+    ghost Says: { Type 0 };
+
+    /// What the record shows.
+    ghost shows: { Self → Says };
+
+    /// The kind.
+    ghost kind: { FormOf Says };
+
+    /// The sender.
+    fn sender(&self) -> u16
+        ensures { result ≡ kind.sender (shows self.now) };
+
+    /// The tag.
+    fn tag(&self) -> &[u8]
+        ensures { result.now ≡ kind.tag (shows self.now) };
+
+    /// Writes the text into the front of the memory, and answers its size.
+    fn write_text(&self, out: &mut [u8]) -> Result<usize, Fault>
+        ensures answer { result ≡ written (kind.text_shaped (shows self.now)) (tag_at_in kind (kind.count (shows self.now))) out.old }
+        ensures after { out.new ≡ memory_after (kind.text_shaped (shows self.now)) (tag_at_in kind (kind.count (shows self.now))) (text_in kind (shows self.now)) out.old };
+
+    /// Writes the line into the front of the memory, and answers its size.
+    fn write(&self, out: &mut [u8]) -> Result<usize, Fault>
+        ensures answer { result ≡ written (shaped_in kind (shows self.now)) (size_of kind (kind.count (shows self.now))) out.old }
+        ensures after { out.new ≡ memory_after (shaped_in kind (shows self.now)) (size_of kind (kind.count (shows self.now))) (line_in kind (shows self.now)) out.old };
+
+    /// A record that passes checks 3 to 8, written and read, comes back.
+    ghost comes_back: { ComesBack kind };
+
+    /// A line that reads is the line that its record writes, and its record passes.
+    ghost is_written: { IsWritten kind };
+
+    /// A text whose parts have their widths ends where its tag begins.
+    ghost long: { EndsAtTag kind };
+}
+
+impl<F: Form> Record for F {
+    ghost Says = { F.Model };
+
+    ghost shows = { F.shown };
+
+    ghost kind = { F.form };
+
+    ghost comes_back = { comes_back_by F.form F.kept };
+
+    ghost is_written = { is_written_by F.form F.kept };
+
+    ghost long = { long_by F.form F.kept };
+
+    fn sender(&self) -> u16 {
+        Form::sender(self)
+    }
+
+    fn tag(&self) -> &[u8] {
+        Form::tag(self)
+    }
+
+    fn write_text(&self, out: &mut [u8]) -> Result<usize, Fault> {
+        let tag_at = self.tag_at();
+        if !self.text_shaped() || out.len() < tag_at {
+            return Err(Fault::of(Reason::Room));
+        }
+        self.fill(&mut out[0..tag_at]);
+        Ok(tag_at)
+    }
+
+    fn write(&self, out: &mut [u8]) -> Result<usize, Fault> {
+        let size = self.tag_at() + TAG_WIDTH;
+        if !is_shaped(self) || out.len() < size {
+            return Err(Fault::of(Reason::Room));
+        }
+        put_line(self, &mut out[0..size], 0);
+        Ok(size)
+    }
+}
+
+/// The parts of the line have their widths.
+pub(crate) fn is_shaped<F: Form>(line: &F) -> bool
+    ensures { result ≡ shaped_in F.form (F.shown line.now) }
+{
+    line.text_shaped() && line.tag().len() == TAG_WIDTH
+}
+
+/// Puts the line behind what is written, and answers where it ends.
+pub(crate) fn put_line<F: Form>(line: &F, out: &mut [u8], at: usize) -> usize
+    requires shape { shaped_in F.form (F.shown line.now) ≡ true }
+    requires room { at + size_of F.form (F.form.count (F.shown line.now)) ≤ length out.old }
+    ensures end { result ≡ at + size_of F.form (F.form.count (F.shown line.now)) }
+    ensures front { take result out.new ≡ take at out.old ++ line_in F.form (F.shown line.now) }
+{
+    let end = at + line.tag_at();
+    line.fill(&mut out[at..end]);
+    put(out, end, line.tag())
+}
+
+/// Reads the line of the kind that the bytes are; they begin at that byte of the line taken.
+pub(crate) fn read<'a, F: FromLine<'a>>(pit: &Pit, at: usize, bytes: &'a [u8]) -> Result<F, Fault>
+    requires { at + length bytes.now < 2 ^ 64 }
+    ensures { result_map F.shown result ≡ read_as F.form pit.now at bytes.now }
+{
+    F::check_itself(pit, at, bytes)?;
+    F::check_inside(pit, at, bytes)?;
+    Ok(F::of(pit, bytes))
+}
+
+/// Reads the line inside another: it must tell its own size and kind first.
+pub(crate) fn read_inner<'a, F: FromLine<'a>>(
+    kind: u16,
+    pit: &Pit,
+    at: usize,
+    bytes: &'a [u8],
+) -> Result<F, Fault>
+    requires named { kind ≡ F.form.kind }
+    requires near { at + length bytes.now < 2 ^ 64 }
+    ensures { result_map F.shown result ≡ read_inside_as F.form pit.now at bytes.now }
+{
+    check_inner(kind, at, bytes)?;
+    read(pit, at, bytes)
+}

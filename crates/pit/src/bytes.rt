@@ -1,0 +1,31 @@
+//! Bytes as text: two hex digits for each byte, the high one first. Lower case is written, either case is read.
+use crate::command::Trouble;
+use std::alloc::Global;
+use std::fmt;
+
+/// Bytes that print as hex, and as `-` where there are none.
+#[derive(Drop)]
+pub(crate) struct Hex<'a> {
+    pub bytes: &'a [u8],
+}
+
+impl fmt::Display for Hex<'_> {
+    fn fmt<W: fmt::Write>(&self, f: &mut fmt::Formatter<W>) -> fmt::Result {
+        if self.bytes.is_empty() {
+            return write!(f, "-");
+        }
+        for byte in self.bytes {
+            write!(f, "{byte:02x}")?;
+        }
+        Ok(())
+    }
+}
+
+/// The bytes that a word of a command writes; `-` is no bytes, and a word of no digits is none.
+pub(crate) fn read(heap: Global, word: &str) -> Result<Vec<u8>, Trouble> {
+    match word {
+        "" => Err(Trouble::BadCommand),
+        "-" => Ok(Vec::new(heap)),
+        _ => Ok(hex::decode(heap, word)?),
+    }
+}
