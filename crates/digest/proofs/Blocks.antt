@@ -1,8 +1,11 @@
 -- The blocks of a padded message, byte by byte.
 use Rattle.std.proofs.lemmas.Grind.{common_steps}
 use Rattle.std.proofs.Common.{◌≡◌, ℕ, ◌+◌, ◌-◌, ◌*◌, ◌<◌, ◌≤◌, List, [], ◌∷◌, ◌++◌, length, get_or, take, drop, replicate, sym, refl, ap, ◌∙◌, ⊎_elim, add-one, arith}
-use Rattle.std.proofs.lemmas.List.{append_assoc, length-append, length-replicate, length-take-le, length-drop, get_or_append_left, get_or-append_right, get_or-replicate, get_or_past, get_or-take, get_or-drop, take-append-le, drop-append-le, drop_at, drop-drop, ext_get_or}
+use Rattle.std.proofs.lemmas.List.{append_assoc, length-append, length-replicate, length-take-le, length-drop, get_or_append_left, get_or-append_right, get_or-replicate, get_or_past, get_or-take, get_or-drop, take-append-le, drop-append-le, drop_at, drop-drop, ext_get_or, take_all}
 use Rattle.std.proofs.lemmas.Bool.{lt-ltb, le-ltb, cases_lt}
+use Rattle.std.specs.Array.{IsFirstChunk}
+use Rattle.std.specs.Prelude.{slice_range, Option, Some, None, IfSome, MatchOption}
+use Rattle.std.specs.Borrow.{Bor}
 use Rattle.digest.specs.Padding.{padded_length, byte_of, Overlaid}
 use Rattle.digest.specs.Sha256.{zeros_after, long_bytes, padded, nth_block, hashed, compress}
 
@@ -105,3 +108,20 @@ block_in_second f s i n whole low within =
 pub hashed_more : (m : List ℕ) (i : ℕ) → hashed m (i + 1) ≡ compress (hashed m i) (nth_block m i)
 unfolding hashed
 hashed_more m i = rw add-one
+
+-- the first 64 bytes of a list, where it has so many
+pub lent : (xs want : List ℕ) (block : Option (Bor (List ℕ))) → MatchOption block (length xs < 64) (λ bytes. IsFirstChunk xs bytes.now 64) → (64 ≤ length xs → take 64 xs ≡ want) → IfSome block (λ bytes. bytes.now ≡ want)
+lent xs want None cases is = tt
+lent xs want (Some bytes) cases is = cases.same ∙ is cases.enough
+
+-- the block from byte a on, where so much is left of the first part, or of the second
+pub lent_first : (f s rest : List ℕ) (i a : ℕ) → a ≡ 64 * i → rest ≡ slice_range f a (length f) → 64 ≤ length rest → take 64 rest ≡ nth_block (padded (f ++ s)) i
+lent_first f s rest i a at is whole =
+    let cut : rest ≡ drop (64 * i) f = is ∙ take_all (length f - a) (drop a f) (omega (arith, length-drop a f)) ∙ ap (λ (k : ℕ). drop k f) at in
+    ap (take 64) cut ∙ block_in_first f s i 64 refl (omega (arith, ap length cut, length-drop (64 * i) f))
+
+pub lent_second : (f s rest : List ℕ) (i a : ℕ) → a + length f ≡ 64 * i → rest ≡ slice_range s a (length s) → 64 ≤ length rest → take 64 rest ≡ nth_block (padded (f ++ s)) i
+lent_second f s rest i a at is whole =
+    let where' : a ≡ 64 * i - length f = omega arith in
+    let cut : rest ≡ drop (64 * i - length f) s = is ∙ take_all (length s - a) (drop a s) (omega (arith, length-drop a s)) ∙ ap (λ (k : ℕ). drop k s) where' in
+    ap (take 64) cut ∙ block_in_second f s i 64 refl (omega arith) (omega (arith, ap length cut, length-drop (64 * i - length f) s))

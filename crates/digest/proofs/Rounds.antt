@@ -1,6 +1,6 @@
 -- One step of the schedule and of the rounds, as the loops take it.
-use Rattle.std.proofs.Common.{◌≡◌, ℕ, ◌+◌, ◌-◌, ◌<◌, ◌≤◌, List, [], ◌∷◌, ◌++◌, length, get_or, take, set, sym, ap, ◌∙◌, add-one, arith}
-use Rattle.std.proofs.lemmas.List.{take_more_set, get_or-take}
+use Rattle.std.proofs.Common.{◌≡◌, ℕ, ◌+◌, ◌-◌, ◌<◌, ◌≤◌, List, [], ◌∷◌, ◌++◌, length, get_or, take, drop, set, sym, ap, ◌∙◌, add-one, arith}
+use Rattle.std.proofs.lemmas.List.{take_more_set, get_or-take, get_or-drop, drop-drop}
 use Rattle.std.proofs.lemmas.Bool.{lt-ltb, le-ltb}
 use Rattle.digest.specs.declared.hash.Words.{Words}
 use Rattle.digest.specs.Sha256.{K, word, next_W, message_schedule, round, rounds, σ₀, σ₁, ◌⊞◌}
@@ -28,3 +28,11 @@ later_words b s t x high within e is = written b s t x within e (rw (le-ltb t 16
   where
     seen : (n : ℕ) → 0 < n → n ≤ t → get_or (take t s) (t - n) 0 ≡ get_or s (t - n) 0
     seen n some back = get_or-take t s (t - n) 0 (omega arith)
+
+-- what stands first behind t elements, and what behind that
+pub next_of : (xs : List ℕ) (t x : ℕ) (rest left : List ℕ) → left ≡ drop t xs → left ≡ x ∷ rest → (x ≡ get_or xs t 0) × (rest ≡ drop (t + 1) xs)
+next_of xs t x rest left at is =
+    let cut : drop t xs ≡ x ∷ rest = sym at ∙ is in (
+      sym (ap (λ (ys : List ℕ). get_or ys 0 0) cut) ∙ get_or-drop t xs 0 0 ∙ ap (λ (k : ℕ). get_or xs k 0) (omega arith),
+      sym (ap (drop 1) cut) ∙ drop-drop 1 t xs,
+    )

@@ -1,11 +1,14 @@
-//! SHA-256 as FIPS 180-4 has it, of a message that may come in two parts.
-ghost use Rattle.std.specs.Prelude.{◌≡◌, ◌+◌, ◌*◌, ◌/◌, ◌<◌, ◌≤◌, ◌++◌, length, take, slice_index};
-ghost use Rattle.digest.specs.Padding.{Overlaid, padded_length};
-ghost use Rattle.digest.specs.Sha256.{K, Ch, Maj, Σ₀, Σ₁, σ₀, σ₁, word, word_bytes, round, rounds, plus, message_schedule, compress, padded, nth_block, digest_bytes, sha256_of};
+//! What SHA-256 as FIPS 180-4 has it does with one block.
+ghost use Rattle.std.specs.Prelude.{◌≡◌, ◌+◌, ◌<◌, ◌≤◌, ◌++◌, length, take};
+ghost use Rattle.digest.specs.Sha256.{Ch, Maj, Σ₀, Σ₁, σ₀, σ₁, word, word_bytes, round, rounds, plus, message_schedule, compress, digest_bytes};
 
 pub const BLOCK_LEN: usize = 64;
 
-const DIGEST_LEN: usize = 32;
+pub type Block = [u8; BLOCK_LEN];
+
+pub const DIGEST_LEN: usize = 32;
+
+pub type Digest = [u8; DIGEST_LEN];
 
 const ROUNDS: usize = 64;
 
@@ -78,7 +81,7 @@ const ROUND_CONSTANTS: [u32; ROUNDS] = [
 ];
 
 /// The initial hash value H(0).
-const INITIAL: Words = Words {
+pub const INITIAL: Words = Words {
     a: 0x6a09e667,
     b: 0xbb67ae85,
     c: 0x3c6ef372,
@@ -100,14 +103,6 @@ pub struct Words {
     f: u32,
     g: u32,
     h: u32,
-}
-
-/// The constant of round `t`.
-fn round_constant(t: usize) -> u32
-    requires { t < 64 }
-    ensures { result ≡ slice_index K t }
-{
-    ROUND_CONSTANTS[t]
 }
 
 fn choose(x: u32, y: u32, z: u32) -> u32
@@ -185,20 +180,20 @@ impl Words {
             h: self.h.wrapping_add(other.h),
         }
     }
+
     /// The 64 rounds over a message schedule.
     fn rounds(self, schedule: &[u32; ROUNDS]) -> Words
         ensures { result ≡ rounds schedule.now self 64 }
     {
         let mut variables = self;
-        for t in 0..ROUNDS {
-            variables = variables.round(round_constant(t), schedule[t]);
+        for (k, w) in ROUND_CONSTANTS.iter().zip(schedule) {
+            variables = variables.round(*k, *w);
         }
         variables
     }
 
     /// The hash value after one more block.
-    fn compress(self, block: &[u8]) -> Words
-        requires { length block.now ≡ 64 }
+    pub fn compress(self, block: &Block) -> Words
         ensures { result ≡ compress self block.now }
     {
         let mut schedule = [0; ROUNDS];
@@ -206,26 +201,9 @@ impl Words {
         self.rounds(&schedule).plus(self)
     }
 
-    /// The hash value after block `i` of the padded message. A block that lies whole in one part is read where it is.
-    #[tactic(auto, using(crate::proofs::Blocks::block_in_first, crate::proofs::Blocks::block_in_second))]
-    fn absorb(self, first: &[u8], second: &[u8], i: usize) -> Words
-        requires { (length first.now + length second.now ≤ 1000000) × (64 * i + 64 ≤ padded_length (length first.now + length second.now)) }
-        ensures { result ≡ compress self (nth_block (padded (first.now ++ second.now)) i) }
-    {
-        let start = BLOCK_LEN * i;
-        let split = first.len();
-        if start + BLOCK_LEN <= split {
-            self.compress(&first[start..start + BLOCK_LEN])
-        } else if start >= split && start + BLOCK_LEN <= split + second.len() {
-            let at = start - split;
-            self.compress(&second[at..at + BLOCK_LEN])
-        } else {
-            self.compress(&padded_block(first, second, i))
-        }
-    }
-
     /// The eight words as bytes.
-    fn to_bytes(self) -> [u8; DIGEST_LEN]
+    // A method: `From` would say no more, and `write` fills the memory that it hands back.
+    pub fn to_bytes(self) -> Digest
         ensures { result ≡ digest_bytes self }
     {
         let mut bytes = [0; DIGEST_LEN];
@@ -233,8 +211,7 @@ impl Words {
         bytes
     }
 
-    fn write(self, bytes: &mut [u8])
-        requires { length bytes.old ≡ 32 }
+    fn write(self, bytes: &mut Digest)
         ensures { bytes.new ≡ digest_bytes self }
     {
         put_word(bytes, 0, self.a);
@@ -257,8 +234,8 @@ fn put_word(bytes: &mut [u8], at: usize, word: u32)
 }
 
 /// Word `t` of a block, its first byte the highest.
-fn word_at(block: &[u8], t: usize) -> u32
-    requires { (t < 16) × (length block.now ≡ 64) }
+fn word_at(block: &Block, t: usize) -> u32
+    requires { t < 16 }
     ensures { result ≡ word block.now t }
 {
     let at = 4 * t;
@@ -266,10 +243,12 @@ fn word_at(block: &[u8], t: usize) -> u32
 }
 
 /// Writes the message schedule of a block.
-fn expand(block: &[u8], schedule: &mut [u32])
-    requires { (length block.now ≡ 64) × (length schedule.old ≡ 64) }
+// Into memory lent: handed back as an array it costs a tenth of the speed of a whole digest.
+fn expand(block: &Block, schedule: &mut [u32])
+    requires { length schedule.old ≡ 64 }
     ensures { schedule.new ≡ message_schedule block.now 64 }
 {
+    // By index, as the standard prints it: a word is written by the words 2, 7, 15 and 16 places before it.
     for t in 0..16 {
         schedule[t] = word_at(block, t);
     }
@@ -279,53 +258,4 @@ fn expand(block: &[u8], schedule: &mut [u32])
             .wrapping_add(small_sigma_0(schedule[t - 15]))
             .wrapping_add(schedule[t - 16]);
     }
-}
-
-/// How many bytes a message of `len` bytes has with its padding.
-fn padded_len(len: usize) -> usize
-    requires { len ≤ 1000000 }
-    ensures { result ≡ padded_length len }
-{
-    len + 1 + (119 - len % BLOCK_LEN) % BLOCK_LEN + 8
-}
-
-/// Copies into the block that begins at byte `start` of a message what falls into it of a part that begins at byte `at`.
-fn overlay(block: &mut [u8], start: usize, part: &[u8], at: usize)
-    requires { (length block.old ≡ 64) × ((start ≤ 2000000) × ((at ≤ 2000000) × (length part.now ≤ 1000000))) }
-    ensures { Overlaid start part.now at block.old block.new }
-{
-    let from = start.max(at);
-    let to = (start + BLOCK_LEN).min(at + part.len());
-    if from < to {
-        block[from - start..to - start].copy_from_slice(&part[from - at..to - at]);
-    }
-}
-
-/// Block `i` of the padded message that is `first` followed by `second`.
-fn padded_block(first: &[u8], second: &[u8], i: usize) -> [u8; BLOCK_LEN]
-    requires { (length first.now + length second.now ≤ 1000000) × (64 * i + 64 ≤ padded_length (length first.now + length second.now)) }
-    ensures { result ≡ nth_block (padded (first.now ++ second.now)) i }
-{
-    let start = BLOCK_LEN * i;
-    let len = first.len() + second.len();
-    let bits = 8 * len as u64;
-    let mut block = [0; BLOCK_LEN];
-    overlay(&mut block, start, first, 0);
-    overlay(&mut block, start, second, first.len());
-    overlay(&mut block, start, &[0x80], len);
-    overlay(&mut block, start, &bits.to_be_bytes(), padded_len(len) - 8);
-    block
-}
-
-/// SHA-256 of `first` followed by `second`.
-pub fn digest(first: &[u8], second: &[u8]) -> [u8; DIGEST_LEN]
-    requires { length first.now + length second.now ≤ 1000000 }
-    ensures { result ≡ sha256_of (first.now ++ second.now) }
-{
-    let blocks = padded_len(first.len() + second.len()) / BLOCK_LEN;
-    let mut hash = INITIAL;
-    for i in 0..blocks {
-        hash = hash.absorb(first, second, i);
-    }
-    hash.to_bytes()
 }

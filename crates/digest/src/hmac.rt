@@ -1,13 +1,16 @@
 //! HMAC-SHA-256 as RFC 2104 has it, over a work block that the caller lends and that ends as zeros.
-ghost use Rattle.std.specs.Prelude.{◌≡◌, ◌-◌, ◌≤◌, ◌++◌, length, replicate};
+ghost use Rattle.std.specs.Prelude.{◌≡◌, ◌≤◌, length, replicate};
 ghost use Rattle.digest.specs.Answers.{hmac_answer};
-ghost use Rattle.digest.specs.Hmac.{key_block, masked, hmac_sha256_of};
+ghost use Rattle.digest.specs.Hmac.{key_block, masked, zero_filled, hmac_sha256_of};
 
-use crate::hash::{BLOCK_LEN, digest};
+use crate::hash::{BLOCK_LEN, Block, Digest};
+use crate::message::Message;
 use fault::{Fault, Reason};
 
+/// The longest key, in bytes.
 const MAX_KEY: usize = 131;
 
+/// The longest text, in bytes.
 const MAX_TEXT: usize = 300;
 
 const INNER_PAD: u8 = 0x36;
@@ -34,46 +37,49 @@ pub fn hmac_sha256(key: &[u8], text: &[u8], work: &mut [u8]) -> Result<[u8; 32],
     ensures wiped { work.new ≡ replicate (length work.old) 0 }
 {
     let guard = Wiped { block: work };
-    if guard.block.len() != BLOCK_LEN || key.len() > MAX_KEY || text.len() > MAX_TEXT {
+    if key.len() > MAX_KEY || text.len() > MAX_TEXT {
         return Err(Fault::of(Reason::Room));
     }
-    Ok(mac(guard.block, key, text))
+    let Ok(block) = <&mut Block>::try_from(&mut guard.block[..]) else {
+        return Err(Fault::of(Reason::Room));
+    };
+    Ok(mac(block, key, text))
 }
 
-fn mac(block: &mut [u8], key: &[u8], text: &[u8]) -> [u8; 32]
-    requires { (length block.old ≡ 64) × ((length key.now ≤ 131) × (length text.now ≤ 300)) }
+fn mac(block: &mut Block, key: &[u8], text: &[u8]) -> Digest
+    requires { (length key.now ≤ 131) × (length text.now ≤ 300) }
     ensures { result ≡ hmac_sha256_of key.now text.now }
 {
     load_key(block, key);
     mask(block, INNER_PAD);
-    let inner = digest(block, text);
+    let inner = Message::new(block, text).digest();
     mask(block, INNER_PAD ^ OUTER_PAD);
-    digest(block, &inner)
+    Message::new(block, &inner).digest()
 }
 
 /// Writes the key as one block: as it is, or its digest where it is longer than a block.
-fn load_key(block: &mut [u8], key: &[u8])
-    requires { (length block.old ≡ 64) × (length key.now ≤ 131) }
+fn load_key(block: &mut Block, key: &[u8])
+    requires { length key.now ≤ 131 }
     ensures { block.new ≡ key_block key.now }
 {
     if key.len() <= BLOCK_LEN {
         zero_fill(block, key);
     } else {
-        zero_fill(block, &digest(key, &[]));
+        zero_fill(block, &Message::new(key, &[]).digest());
     }
 }
 
 /// Writes bytes into the front of a block, and zeros behind them.
-fn zero_fill(block: &mut [u8], bytes: &[u8])
-    requires { length bytes.now ≤ length block.old }
-    ensures { block.new ≡ bytes.now ++ replicate (length block.old - length bytes.now) 0 }
+fn zero_fill(block: &mut Block, bytes: &[u8])
+    requires { length bytes.now ≤ 64 }
+    ensures { block.new ≡ zero_filled bytes.now }
 {
     block.fill(0);
     block[0..bytes.len()].copy_from_slice(bytes);
 }
 
 /// Turns each byte of a block by the bits of `byte`.
-fn mask(block: &mut [u8], byte: u8)
+fn mask(block: &mut Block, byte: u8)
     ensures { block.new ≡ masked byte block.old }
 {
     for x in block.iter_mut() {

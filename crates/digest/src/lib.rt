@@ -7,9 +7,11 @@ ghost use Rattle.digest.specs.Examples.{HmacExamples, Sha256Examples};
 ghost use Rattle.std.specs.Prelude.{◌≡◌};
 
 use fault::{Fault, Reason};
+use message::Message;
 
 mod hash;
 mod hmac;
+mod message;
 
 pub use hmac::hmac_sha256;
 
@@ -22,7 +24,7 @@ pub fn sha256(input: &[u8]) -> Result<[u8; 32], Fault>
     if input.len() > MAX_INPUT {
         return Err(Fault::of(Reason::Room));
     }
-    Ok(hash::digest(input, &[]))
+    Ok(Message::new(input, &[]).digest())
 }
 
 /// SHA-256 of the message that is `first` followed by `second`.
@@ -32,7 +34,7 @@ pub fn sha256_two(first: &[u8], second: &[u8]) -> Result<[u8; 32], Fault>
     if first.len() > MAX_INPUT || second.len() > MAX_INPUT - first.len() {
         return Err(Fault::of(Reason::Room));
     }
-    Ok(hash::digest(first, second))
+    Ok(Message::new(first, second).digest())
 }
 
 /// The definitions that the contracts cite give the published values of the standards' worked examples: that is the contract, and there is nothing to do.

@@ -126,6 +126,7 @@ impl Fault {
     }
 }
 
+// By hand: `output` states the very text that is printed, and a derive's text has no contract.
 impl fmt::Display for Fault {
     ghost output = { λ f. Some (printed f) };
 

@@ -14,7 +14,7 @@ use Rattle.line.specs.Lines as lines
 use Rattle.line.specs.Lines.{called, ordered, answered, certified, marked, printed, charged}
 use Rattle.line.specs.OrderLine as order
 use Rattle.line.specs.SheetLine as sheet
-use Rattle.line.specs.declared.kind.Kinds.{Kinds}
+use Rattle.line.specs.declared.kind.Kind.{Kind}
 use Rattle.line.specs.declared.pit.Pit.{Pit}
 use Rattle.seal.specs.Meaning.{Meaning}
 
@@ -72,10 +72,12 @@ admits seal v = seal.accepts v.party v.text v.tag
 -- 9: the first voucher that the seal does not accept is at fault
 abbrev pub admitted : Meaning → List Voucher → Result (Unit {0}) Fault
 admitted seal [] = Ok tt
-admitted seal (v ∷ vs) = check (admits seal v) Tag v.offset >> admitted seal vs
+admitted seal (v ∷ vs) = do
+  check (admits seal v) Tag v.offset
+  admitted seal vs
 
 -- what the bytes are to a machine of this pit that takes these kinds and asks this seal: checks 3 to 9
-abbrev pub heard : Pit → Kinds → Meaning → List ℕ → Result lines.Model Fault
+abbrev pub heard : Pit → List Kind → Meaning → List ℕ → Result lines.Model Fault
 heard pit taken seal bytes = do
   m ← lines.read pit taken bytes
   admitted seal (vouchers m)

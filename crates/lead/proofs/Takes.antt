@@ -3,9 +3,9 @@ use Rattle.std.proofs.Common.{◌≡◌, ℕ, ◌<◌, Bool, true, false, cond, 
 use Rattle.fault.specs.Checks.{◌>>=◌}
 use Rattle.fault.specs.declared.Fault.{Fault}
 use Rattle.fault.specs.declared.Reason.TheVariants.{Stamp, Full}
-use Rattle.line.specs.FormsKept.{reads}
-use Rattle.line.specs.Shows.{call_shows}
-use Rattle.line.specs.Tests.{check_ok, ok_same}
+use Rattle.line.specs.lemmas.FormsKept.{reads}
+use Rattle.line.specs.lemmas.Shows.{call_shows}
+use Rattle.line.specs.lemmas.Checked.{check_ok, ok_same}
 use Rattle.line.specs.CallLine as call
 use Rattle.line.specs.OrderLine as order
 use Rattle.line.specs.Rules.{in_numbers, last_number}
@@ -19,9 +19,10 @@ use Rattle.std.proofs.lemmas.List.{append-nil}
 use Rattle.step.specs.Outbox.{over_front}
 use Rattle.step.specs.Calls.{Decision, settle, send, World, Carried}
 use Rattle.lead.proofs.Hearing.{hears_reads}
+use Rattle.step.proofs.Carrying.{carried_steps}
 use Rattle.step.specs.Steps.{left_by}
 use Rattle.lead.specs.Leading.{assigned, hears, holding, lead_acts, next_row, order_of, outdated, placed, row_in, row_of}
-use Rattle.lead.specs.Runs.{Stepped, Taking, Wrote, decided, lead_next, order_for, sent, sent_if_stamped, taking}
+use Rattle.lead.specs.Runs.{RunsAreTakes, Taking, OrdersWritten, decided, lead_next, order_for, sent, sent_if_stamped, taking}
 use Rattle.lead.specs.declared.Assignment.{Assignment}
 use Rattle.lead.specs.declared.Assignment.TheVariants.{Repeat, Fresh}
 use Rattle.lead.specs.declared.Lead.{Lead}
@@ -147,19 +148,12 @@ says lead t = on_heard (hears lead.pit t.seal t.bytes t.room)
     on_heard (Err f) = refl
     on_heard (Ok m) = on_assigned m (assigned lead m)
 
--- what a decision leaves, and what it sends, is what its being carried out leaves and writes
-leaves : (d : Decision Lead) (party : ℕ) (before after : World Lead) (r : Result ℕ Fault) → Carried party d before after r
-    → after.state ≡ left_by before.seal party before.state d
-leaves (Err f) party before after r h = ap (λ (w : World Lead). w.state) h.1
-leaves (Ok (settle next)) party before after r h = ap (λ (w : World Lead). w.state) h.1
-leaves (Ok (send next text rest)) party before after (Ok count) h = h.holds ∙ rw h.allowed
-leaves (Ok (send next text rest)) party before after (Err fault) h = ap (λ (w : World Lead). w.state) h.1.1 ∙ rw h.0
-
+-- what a decision sends is what its being carried out writes
 writes : (d : Decision Lead) (v : Result order.Model Fault) (party : ℕ) (before after : World Lead) (r : Result ℕ Fault) → Says d v → Carried party d before after r
-    → Wrote (sent_if_stamped before.seal party v) before.out after.out
+    → OrdersWritten (sent_if_stamped before.seal party v) before.out after.out
 unfolding Says
 writes (Err f) v party before after r said h =
-    subst (λ x. Wrote (sent_if_stamped before.seal party x) before.out after.out) (sym said) (ap (λ (w : World Lead). w.out) h.1)
+    subst (λ x. OrdersWritten (sent_if_stamped before.seal party x) before.out after.out) (sym said) (ap (λ (w : World Lead). w.out) h.1)
 writes (Ok (settle next)) v party before after r said h = absurd said
 writes (Ok (send next text rest)) v party before after (Ok count) said h =
     let o = said.0 in
@@ -167,20 +161,19 @@ writes (Ok (send next text rest)) v party before after (Ok count) said h =
     let out : after.out ≡ over_front (order.text o ++ h.tag) before.out =
     h.writes ∙ (ap (λ x. over_front (x ++ (h.tag ++ rest)) before.out) said.2
     ∙ ap (λ x. over_front (order.text o ++ x) before.out) (ap (λ x. h.tag ++ x) said.3 ∙ append-nil h.tag)) in
-    subst (λ x. Wrote (sent_if_stamped before.seal party x) before.out after.out) (sym said.1)
-    (subst (λ b. Wrote (cond b (o ∷ []) []) before.out after.out) (sym stamps) (h.tag, h.tag_fits, out))
+    subst (λ x. OrdersWritten (sent_if_stamped before.seal party x) before.out after.out) (sym said.1)
+    (subst (λ b. OrdersWritten (cond b (o ∷ []) []) before.out after.out) (sym stamps) (h.tag, h.tag_fits, out))
 writes (Ok (send next text rest)) v party before after (Err fault) said h =
     let o = said.0 in
     let none : may_stamp before.seal party (order.text o) ≡ false = subst (λ x. may_stamp before.seal party x ≡ false) said.2 h.0 in
-    subst (λ x. Wrote (sent_if_stamped before.seal party x) before.out after.out) (sym said.1)
-    (subst (λ b. Wrote (cond b (o ∷ []) []) before.out after.out) (sym none) (ap (λ (w : World Lead). w.out) h.1.1))
+    subst (λ x. OrdersWritten (sent_if_stamped before.seal party x) before.out after.out) (sym said.1)
+    (subst (λ b. OrdersWritten (cond b (o ∷ []) []) before.out after.out) (sym none) (ap (λ (w : World Lead). w.out) h.1.1))
 
-pub stepped : (before after : World Lead) (bytes : List ℕ) (r : Result ℕ Fault)
-    → Carried (lead_of before.state.pit) (decided before.state (taking before bytes)) before after r → Stepped before after (taking before bytes)
+pub stepped : RunsAreTakes
 unfolding lead_next sent
 stepped before after bytes r h =
     let t = taking before bytes in
     record {
-      holds = leaves (decided before.state t) (lead_of before.state.pit) before after r h;
+      holds = (carried_steps Lead (lead_of before.state.pit) (decided before.state t) before after r h).holds;
       wrote = writes (decided before.state t) (order_for before.state t) (lead_of before.state.pit) before after r (says before.state t) h;
     }

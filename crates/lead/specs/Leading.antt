@@ -1,8 +1,9 @@
 -- What the lead does with a CALL.
-use Rattle.std.specs.Prelude.{ℕ, ◌+◌, ◌-◌, Bool, true, false, not, ◌&&◌, List, [], replicate, ◌==◌, nat_le, nat_lt, slice_index_or, slice_set, Ok, Result}
+use Rattle.std.specs.Prelude.{ℕ, ◌+◌, ◌-◌, Bool, true, false, not, ◌&&◌, List, [], ◌∷◌, replicate, ◌==◌, nat_le, nat_lt, slice_index_or, slice_set, Ok, Result}
 use Rattle.fault.specs.Checks.{check, refused, ◌>>=◌, ◌>>◌}
 use Rattle.fault.specs.declared.Fault.{Fault}
-use Rattle.fault.specs.declared.Reason.TheVariants.{SetUp, Room, Kind, Stamp, Full}
+use Rattle.fault.specs.declared.Reason.TheVariants as reason
+use Rattle.fault.specs.declared.Reason.TheVariants.{SetUp, Room, Stamp, Full}
 use Rattle.hear.specs.Vouchers.{heard}
 use Rattle.line.specs.CallLine as call
 use Rattle.line.specs.Lines as lines
@@ -10,7 +11,8 @@ use Rattle.line.specs.Lines.{called, ordered, answered, certified, marked, print
 use Rattle.line.specs.OrderLine as order
 use Rattle.line.specs.Rules.{last_number}
 use Rattle.line.specs.SetUp.{opened, is_lead, lead_of, first_client, clients}
-use Rattle.line.specs.declared.kind.Kinds.{Kinds}
+use Rattle.line.specs.declared.kind.Kind.{Kind}
+use Rattle.line.specs.declared.kind.Kind.TheVariants as kind
 use Rattle.line.specs.declared.pit.Pit.{Pit}
 use Rattle.seal.specs.Meaning.{Meaning}
 use Rattle.std.specs.Str.{bytes_eq}
@@ -38,18 +40,18 @@ lead_opened f view number = do
   Ok (new_lead pit)
 
 -- the lead takes CALLs alone
-abbrev pub calls_only : Kinds
-calls_only = record { call = true; order = false; answer = false; cert = false; committed = false; sheet = false; charge = false }
+abbrev pub calls_only : List Kind
+calls_only = kind.Call ∷ []
 
 -- 4 for a line that is no CALL
 abbrev pub as_call : lines.Model → Result call.Model Fault
 as_call (called m) = Ok m
-as_call (ordered m) = refused Kind 0
-as_call (answered m) = refused Kind 0
-as_call (certified m) = refused Kind 0
-as_call (marked m) = refused Kind 0
-as_call (printed m) = refused Kind 0
-as_call (charged m) = refused Kind 0
+as_call (ordered m) = refused reason.Kind 0
+as_call (answered m) = refused reason.Kind 0
+as_call (certified m) = refused reason.Kind 0
+as_call (marked m) = refused reason.Kind 0
+as_call (printed m) = refused reason.Kind 0
+as_call (charged m) = refused reason.Kind 0
 
 -- the CALL that the bytes are: 2 unless the outbox has its least room, then checks 3 to 9
 abbrev pub hears : Pit → Meaning → List ℕ → ℕ → Result call.Model Fault

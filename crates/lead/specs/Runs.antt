@@ -94,18 +94,18 @@ abbrev pub taking : World Lead → List ℕ → Taking
 taking world bytes = record { seal = world.seal; bytes = bytes; room = length world.out }
 
 -- what a take leaves in the outbox: all as it was, or the one ORDER that was sent, with its tag, over the front
-abbrev pub Wrote : List order.Model → List ℕ → List ℕ → Type 0
-Wrote [] before after = after ≡ before
-Wrote (o ∷ []) before after = (tag : List ℕ) × (length tag ≡ tag_size) × (after ≡ over_front (order.text o ++ tag) before)
-Wrote (o ∷ p ∷ os) before after = ⊥
+abbrev pub OrdersWritten : List order.Model → List ℕ → List ℕ → Type 0
+OrdersWritten [] before after = after ≡ before
+OrdersWritten (o ∷ []) before after = (tag : List ℕ) × (length tag ≡ tag_size) × (after ≡ over_front (order.text o ++ tag) before)
+OrdersWritten (o ∷ p ∷ os) before after = ⊥
 
 -- the world after a take is as a run has it: the lead that is next, and the ORDER that was sent
-pub record Stepped (before after : World Lead) (t : Taking) : Type 0 where
+pub record TakeMade (before after : World Lead) (t : Taking) : Type 0 where
   pub holds : after.state ≡ lead_next before.state t
-  pub wrote : Wrote (sent before.state t) before.out after.out
+  pub wrote : OrdersWritten (sent before.state t) before.out after.out
 
 -- runs are what the lead's own takes make: each carries out its decision, and that is a step of a run
 abbrev pub RunsAreTakes : Type 0
 RunsAreTakes = (before after : World Lead) (bytes : List ℕ) (r : Result ℕ Fault) →
     Carried (lead_of before.state.pit) (decided before.state (taking before bytes)) before after r →
-    Stepped before after (taking before bytes)
+    TakeMade before after (taking before bytes)

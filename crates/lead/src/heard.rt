@@ -39,7 +39,7 @@ impl Heard<'_> {
         ensures { result ≡ text (shown self.now.call) }
     {
         let mut text = [0; call::TAG_AT];
-        let _ = self.call.write_text(&mut text);
+        self.call.write_text(&mut text).unwrap();
         text
     }
 

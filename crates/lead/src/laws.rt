@@ -3,6 +3,7 @@ ghost use Rattle.lead.specs.Runs.{LinkedUp, NoConflict, RunsAreTakes, WithoutGap
 
 /// Whatever lines a lead takes from its opening on, with whatever seal: the places that it gives are 1, 2, 3, … without
 /// a gap; no two of its ORDERs conflict; and each history links its CALL to the history before.
+#[tactic(auto, using(crate::proofs::Ordered::gapless, crate::proofs::Ordered::agree, crate::proofs::Ordered::linked))]
 pub fn laws_hold()
     ensures without_gap { WithoutGap }
     ensures no_conflict { NoConflict }

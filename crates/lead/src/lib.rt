@@ -16,8 +16,7 @@ ghost use Rattle.step.specs.Calls.{Carried};
 use crate::heard::Heard;
 use fault::{Fault, Reason};
 use hear::hear;
-use line::call::Call;
-use line::kind::Kinds;
+use line::kind::Kind;
 use line::lines::Line;
 use line::order;
 use line::order::Order;
@@ -36,19 +35,11 @@ const ROWS: usize = CLIENTS as usize;
 const BODY_SIZE: usize = 16;
 
 /// What the lead takes.
-const CALLS_ONLY: Kinds = Kinds {
-    call: true,
-    order: false,
-    answer: false,
-    cert: false,
-    committed: false,
-    sheet: false,
-    charge: false,
-};
+const CALLS_ONLY: &[Kind] = &[Kind::Call];
 
 /// A tablet's last call: its stamp and body, and the place and history that it was given.
 #[derive(Clone, Copy)]
-pub struct Row {
+struct Row {
     stamp: u32,
     place: u32,
     history: [u8; HISTORY_SIZE],
@@ -56,6 +47,7 @@ pub struct Row {
 }
 
 /// A tablet that has not called yet.
+// Not `Option<Row>`: by the rules every stamp and place is 0 at first, so that any stamp, all above 0, is newer than none.
 const NO_ROW: Row = Row {
     stamp: 0,
     place: 0,
@@ -65,7 +57,7 @@ const NO_ROW: Row = Row {
 
 /// The row that a call has: its former one, or a new one with the next place.
 #[derive(Clone, Copy)]
-pub enum Assignment {
+enum Assignment {
     Repeat(Row),
     Fresh(Row),
 }
@@ -116,14 +108,14 @@ impl Lead {
         seal: &S,
         line: &'a [u8],
         room: usize,
-    ) -> Result<Call<'a>, Fault>
-        ensures { result_map call_shown result ≡ hears self.now.pit (S.meaning seal.now) line.now room }
+    ) -> Result<Heard<'a>, Fault>
+        ensures { result_map (λ h. call_shown h.call) result ≡ hears self.now.pit (S.meaning seal.now) line.now room }
     {
         if !roomy(room) {
             return Err(Fault::of(Reason::Room));
         }
-        match hear(&self.pit, &CALLS_ONLY, seal, line)? {
-            Line::Call(call) => Ok(call),
+        match hear(&self.pit, CALLS_ONLY, seal, line)? {
+            Line::Call(call) => Ok(Heard { call }),
             _ => Err(Fault::of(Reason::Kind)),
         }
     }
@@ -134,8 +126,7 @@ impl Assignment {
         ensures { result.now ≡ row_in self.now }
     {
         match self {
-            Assignment::Repeat(row) => row,
-            Assignment::Fresh(row) => row,
+            Assignment::Repeat(row) | Assignment::Fresh(row) => row,
         }
     }
 }
@@ -143,7 +134,7 @@ impl Assignment {
 impl Lead {
     /// The next place and history, for a new call.
     fn next_row(&self, heard: &Heard) -> Row
-        requires { self.now.place < 1000000 }
+        requires { self.now.place < LAST_PLACE }
         ensures { result ≡ next_row self.now (call_shown heard.now.call) }
     {
         Row {
@@ -184,7 +175,7 @@ impl Lead {
             tag: &[],
         };
         let mut text = [0; order::TAG_AT];
-        let _ = order.write_text(&mut text);
+        order.write_text(&mut text).unwrap();
         text
     }
 
@@ -193,11 +184,11 @@ impl Lead {
         ensures { self.new ≡ holding self.old (call_shown heard.now.call) assignment }
     {
         if let Assignment::Fresh(row) = assignment {
-            let client = heard.client();
-            let history = row.history;
-            self.rows[client] = row;
+            // An array is stored from a variable: straight from the row, the checker of borrows does not cover it.
+            let Row { place, history, .. } = row;
+            self.rows[heard.client()] = row;
             self.history = history;
-            self.place = row.place;
+            self.place = place;
         }
     }
 
@@ -210,8 +201,7 @@ impl Lead {
     ) -> Result<usize, Fault>
         ensures { Carried (lead_of self.old.pit) (lead_takes self.old (S.meaning seal.old) line.now (length out.old)) (record { state = self.old; seal = S.meaning seal.old; out = out.old }) (record { state = self.new; seal = S.meaning seal.new; out = out.new }) result }
     {
-        let call = self.hear_call(seal, line, out.len())?;
-        let heard = Heard { call };
+        let heard = self.hear_call(seal, line, out.len())?;
         let assignment = self.assign(&heard)?;
         let text = self.order_text(&heard, assignment.row());
         let count = deliver(seal, self.pit.lead(), &text, &[], out)?;

@@ -1,20 +1,21 @@
 -- What a line of any kind that reads tells.
 use Rattle.std.proofs.Common.{◌≡◌, ℕ, ◌^◌, ◌<◌, true, cond, eqb, List, [], ◌∷◌, length, get_or, Some, None, Option, sym, refl, ap, ◌∙◌, subst, ⊎_elim, arith, Ok}
 use Rattle.std.proofs.lemmas.Bool.{and_parts, eqb-true, cases_Bool}
-use Rattle.fault.specs.Checks.{◌>>=◌}
+use Rattle.std.specs.Option.{ok_or}
+use Rattle.fault.specs.Checks.{check, fault_at, ◌>>=◌, ◌>>◌}
 use Rattle.fault.specs.declared.Reason.TheVariants as reason
 use Rattle.fault.specs.declared.Reason.TheVariants.{LineSize}
-use Rattle.line.specs.FormsKept.{Shows, told_size, told_small, read_passes}
-use Rattle.line.specs.Bytes.{Bytes}
+use Rattle.line.specs.Laws.{Bytes, Shows}
+use Rattle.line.specs.lemmas.FormsKept.{told_size, told_small, read_passes}
 use Rattle.line.specs.Forms.{Form, read, shaped}
-use Rattle.line.specs.Shows.{call_shows, order_shows, answer_shows, cert_shows, committed_shows, sheet_shows, charge_shows}
-use Rattle.line.specs.Tests.{bind_ok, check_ok, ok_same}
+use Rattle.line.specs.lemmas.Shows.{call_shows, order_shows, answer_shows, cert_shows, committed_shows, sheet_shows, charge_shows}
+use Rattle.line.specs.lemmas.Checked.{bind_ok, check_ok, ok_not_err, ok_same}
 use Rattle.line.specs.AnswerLine as answer
 use Rattle.line.specs.CallLine as call
 use Rattle.line.specs.CertLine as cert
 use Rattle.line.specs.ChargeLine as charge
 use Rattle.line.specs.CommittedLine as committed
-use Rattle.line.specs.Kinds.{kind_number, first_named, all_kinds, kind_named, takes, taken_kind, outer_kind}
+use Rattle.line.specs.Kinds.{kind_number, first_named, all_kinds, kind_named, numbered, takes, outer_kind}
 use Rattle.line.specs.Layout.{number_at}
 use Rattle.line.specs.Lines as lines
 use Rattle.line.specs.Lines.{called, ordered, answered, certified, marked, printed, charged}
@@ -23,7 +24,6 @@ use Rattle.line.specs.Rules.{whole}
 use Rattle.line.specs.SheetLine as sheet
 use Rattle.line.specs.declared.kind.Kind.{Kind}
 use Rattle.line.specs.declared.kind.Kind.TheVariants.{Call, Order, Answer, Cert, Committed, Sheet, Charge}
-use Rattle.line.specs.declared.kind.Kinds.{Kinds}
 use Rattle.line.specs.declared.pit.Pit.{Pit}
 
 named_number : (n : ℕ) (ks : List Kind) (k : Kind) → first_named n ks ≡ Some k → n ≡ kind_number k
@@ -35,9 +35,9 @@ named_number n (x ∷ xs) k e =
     (λ other. named_number n xs k (ap (λ b. cond b (Some x) (first_named n xs)) (sym other) ∙ e))
     (cases_Bool (eqb n (kind_number x)))
 
-taken_named : (t : Kinds) (o : Option Kind) (k : Kind) → taken_kind t o ≡ Ok k → o ≡ Some k
-taken_named t None k e = let z : ◌≡◌ {A = ℕ} 0 1 = cc in absurd (omega arith)
-taken_named t (Some x) k e = ap Some (ok_same x k (check_ok (takes t x) reason.Kind 0 (Ok x) k e).1)
+named_kind : (o : Option Kind) (k : Kind) → ok_or o (fault_at reason.Kind 0) ≡ Ok k → o ≡ Some k
+named_kind None k e = absurd (ok_not_err k _ (sym e))
+named_kind (Some x) k e = ap Some (ok_same x k e)
 
 -- checks 3 and 4 have passed, and the kind's own checks too
 pub record LineGood (pit : Pit) (bs : List ℕ) (m : lines.Model) : Type 0 where
@@ -46,14 +46,17 @@ pub record LineGood (pit : Pit) (bs : List ℕ) (m : lines.Model) : Type 0 where
   pub named : number_at 2 2 bs ≡ kind_number kind
   pub reads : lines.read_as pit bs kind ≡ Ok m
 
-pub line_good : (pit : Pit) (t : Kinds) (bs : List ℕ) (m : lines.Model) → lines.read pit t bs ≡ Ok m → LineGood pit bs m
+pub line_good : (pit : Pit) (t : List Kind) (bs : List ℕ) (m : lines.Model) → lines.read pit t bs ≡ Ok m → LineGood pit bs m
 line_good pit t bs m e =
+    let n = number_at 2 2 bs in
     let a = bind_ok (outer_kind t bs) (λ k. lines.read_as pit bs k) m e in
-    let b = check_ok (whole bs) LineSize 0 (taken_kind t (kind_named (number_at 2 2 bs))) a.0 a.1 in
+    let b = check_ok (whole bs) LineSize 0 (numbered n >>= (λ k. check (takes t k) reason.Kind 0 >> Ok k)) a.0 a.1 in
+    let c = bind_ok (numbered n) (λ k. check (takes t k) reason.Kind 0 >> Ok k) a.0 b.1 in
+    let d = check_ok (takes t c.0) reason.Kind 0 (Ok c.0) a.0 c.2 in
     record {
       tells = b.0;
       kind = a.0;
-      named = named_number (number_at 2 2 bs) all_kinds a.0 (taken_named t (kind_named (number_at 2 2 bs)) a.0 b.1);
+      named = named_number n all_kinds a.0 (named_kind (kind_named n) a.0 (c.1 ∙ d.1));
       reads = a.2;
     }
 
@@ -78,7 +81,7 @@ module _ (pit : Pit) (bs : List ℕ) (bytes : Bytes bs) (w : whole bs ≡ true) 
   read_as_shaped Charge m e = shaped_as charge.form charge_shows charged m (λ x. refl) e
 
 -- the parts of a line that reads have their widths
-pub line_shaped : (pit : Pit) (t : Kinds) (bs : List ℕ) (m : lines.Model) → ((i : ℕ) → get_or bs i 0 < 256) → lines.read pit t bs ≡ Ok m → lines.shaped m ≡ true
+pub line_shaped : (pit : Pit) (t : List Kind) (bs : List ℕ) (m : lines.Model) → ((i : ℕ) → get_or bs i 0 < 256) → lines.read pit t bs ≡ Ok m → lines.shaped m ≡ true
 line_shaped pit t bs m bytes e = let g = line_good pit t bs m e in read_as_shaped pit bs bytes g.tells g.kind m g.reads
 
 shaped_text : (m : lines.Model) → lines.shaped m ≡ true → lines.text_shaped m ≡ true
@@ -90,5 +93,5 @@ shaped_text (marked m) s = (and_parts _ _ s).0
 shaped_text (printed m) s = (and_parts (sheet.text_shaped m) _ s).0
 shaped_text (charged m) s = (and_parts (charge.text_shaped m) _ s).0
 
-pub line_text_shaped : (pit : Pit) (t : Kinds) (bs : List ℕ) (m : lines.Model) → ((i : ℕ) → get_or bs i 0 < 256) → lines.read pit t bs ≡ Ok m → lines.text_shaped m ≡ true
+pub line_text_shaped : (pit : Pit) (t : List Kind) (bs : List ℕ) (m : lines.Model) → ((i : ℕ) → get_or bs i 0 < 256) → lines.read pit t bs ≡ Ok m → lines.text_shaped m ≡ true
 line_text_shaped pit t bs m bytes e = shaped_text m (line_shaped pit t bs m bytes e)

@@ -1,13 +1,13 @@
 -- The entries of a CERT, one after another.
-use Rattle.std.proofs.Common.{◌≡◌, ℕ, suc, ◌+◌, ◌-◌, ◌*◌, ◌<◌, List, ◌∷◌, drop, ap, ◌∙◌, arith}
-use Rattle.std.proofs.lemmas.List.{drop-drop}
+use Rattle.std.proofs.Common.{◌≡◌, ℕ, suc, ◌/◌, List, ◌∷◌, ◌++◌, length, ap, arith}
+use Rattle.std.proofs.lemmas.List.{drop_at, length-append, take-append-le}
 use Rattle.line.specs.CertLine.{voters}
-use Rattle.line.specs.Layout.{number_at}
+use Rattle.line.specs.Layout.{number, number_at}
 
--- what is left after i entries begins with entry i
-pub voters_more : (n i : ℕ) (es : List ℕ) → i < n
-    → voters (n - i) (drop (34 * i) es) ≡ number_at 2 (34 * i) es ∷ voters (n - (i + 1)) (drop (34 * (i + 1)) es)
-voters_more n i es h =
-    let e : n - i ≡ suc (n - (i + 1)) = omega arith in
-    let e' : 34 * i + 34 ≡ 34 * (i + 1) = omega arith in
-    rw e (ap (λ xs. number_at 2 (34 * i) es ∷ voters (n - (i + 1)) xs) (drop-drop 34 (34 * i) es ∙ ap (λ k. drop k es) e'))
+-- behind the first entry lie the others
+pub voters_next : (entry rest : List ℕ) → length entry ≡ 34
+    → voters (length (entry ++ rest) / 34) (entry ++ rest) ≡ number_at 2 0 entry ∷ voters (length rest / 34) rest
+voters_next entry rest long =
+    let more : length (entry ++ rest) / 34 ≡ suc (length rest / 34) = omega (arith, length-append entry rest, long) in
+    rw (more, drop_at entry rest 34 long)
+    (ap (λ xs. number xs ∷ voters (length rest / 34) rest) (take-append-le 2 entry rest (omega (arith, long))))

@@ -4,7 +4,7 @@ use Rattle.fault.specs.declared.Fault.{Fault}
 use Rattle.line.specs.Forms as forms
 use Rattle.line.specs.Forms.{Form}
 use Rattle.line.specs.Layout.{stamp_width, body_width}
-use Rattle.line.specs.Parts.{numeric, plain}
+use Rattle.line.specs.Parts.{Part, numeric, plain}
 use Rattle.line.specs.Rules.{in_numbers}
 use Rattle.line.specs.SetUp.{is_client}
 use Rattle.line.specs.declared.call.Call.{Call}
@@ -36,17 +36,21 @@ in_range m = in_numbers m.stamp
 abbrev pub text_shaped : Model → Bool
 text_shaped m = length m.body == body_width
 
+-- what lies between header and tag: stamp 10, body 14, tag 30
+abbrev pub parts : List Part
+parts = numeric stamp_width ∷ plain body_width ∷ []
+
 -- the kind
 abbrev pub form : Form Model
 form = record {
   kind = 1;
-  parts = numeric stamp_width ∷ plain body_width ∷ [];
+  parts = parts;
   count = λ m. 0;
   sender = λ m. m.sender;
   view = λ m. m.view;
   values = λ m. (m.stamp, (m.body, tt));
   tag = λ m. m.tag;
-  saying = λ sender view vs tag. record {
+  record_of = λ sender view vs tag. record {
     sender = sender;
     view = view;
     stamp = vs.0;

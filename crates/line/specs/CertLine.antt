@@ -1,11 +1,11 @@
 -- CERT: a tablet shows that a quorum of boxes gave one ANSWER.
-use Rattle.std.specs.Prelude.{ℕ, zero, suc, ◌+◌, ◌*◌, Bool, true, cond, ◌&&◌, List, [], ◌∷◌, length, drop, Some, None, Option, ◌==◌, nat_le, nat_lt, Ok, Result}
+use Rattle.std.specs.Prelude.{ℕ, zero, suc, ◌+◌, ◌*◌, Bool, true, cond, ◌&&◌, List, [], ◌∷◌, length, take, drop, Some, None, Option, ◌==◌, nat_le, nat_lt, Ok, Result}
 use Rattle.fault.specs.declared.Fault.{Fault}
 use Rattle.line.specs.Forms as forms
 use Rattle.line.specs.Forms.{Form}
 use Rattle.line.specs.AnswerLine as answer
 use Rattle.line.specs.Layout.{part, number_at, most_size, header_size, tag_width, place_width, history_width, client_width, stamp_width, reply_width, count_width, replica_width}
-use Rattle.line.specs.Parts.{numeric, plain, listed}
+use Rattle.line.specs.Parts.{Part, numeric, plain, listed, end_of}
 use Rattle.line.specs.Rules.{in_numbers, in_clients}
 use Rattle.line.specs.SetUp.{is_client, client_party, replicas_of, quorum_of}
 use Rattle.line.specs.declared.cert.Cert.{Cert}
@@ -24,10 +24,6 @@ pub record Model : Type 0 where
   pub entries : List ℕ
   pub tag : List ℕ
 
--- where the entries begin
-abbrev pub entries_at : ℕ
-entries_at = header_size + place_width + history_width + client_width + stamp_width + reply_width + count_width
-
 -- an entry is a box's number and that box's tag
 abbrev pub entry_size : ℕ
 entry_size = replica_width + tag_width
@@ -40,9 +36,17 @@ entry_tag_at = replica_width
 abbrev pub entries_size : ℕ → ℕ
 entries_size count = entry_size * count
 
+-- what lies between header and tag: place 10, history 14, client 46, stamp 48, reply 52, count 60, entries 62, and the tag behind them
+abbrev pub parts : List Part
+parts = numeric place_width ∷ plain history_width ∷ numeric client_width ∷ numeric stamp_width ∷ plain reply_width ∷ numeric count_width ∷ listed entry_size ∷ []
+
+-- where the entries begin, behind six parts
+abbrev pub entries_at : ℕ
+entries_at = end_of 0 header_size (take 6 parts)
+
 -- where the tag begins behind so many entries
 abbrev pub tag_at : ℕ → ℕ
-tag_at count = entries_at + entries_size count
+tag_at count = end_of count header_size parts
 
 -- the size of a line with so many entries
 abbrev pub size_of : ℕ → ℕ
@@ -110,13 +114,13 @@ text_shaped m =
 abbrev pub form : Form Model
 form = record {
   kind = 4;
-  parts = numeric place_width ∷ plain history_width ∷ numeric client_width ∷ numeric stamp_width ∷ plain reply_width ∷ numeric count_width ∷ listed entry_size ∷ [];
+  parts = parts;
   count = λ m. m.count;
   sender = λ m. m.sender;
   view = λ m. m.view;
   values = λ m. (m.place, (m.history, (m.client, (m.stamp, (m.reply, (m.count, (m.entries, tt)))))));
   tag = λ m. m.tag;
-  saying = λ sender view vs tag. record {
+  record_of = λ sender view vs tag. record {
     sender = sender;
     view = view;
     place = vs.0;

@@ -1,12 +1,12 @@
 -- CHARGE: a tablet shows two ORDERs of the lead that do not go together.
-use Rattle.std.specs.Prelude.{ℕ, ◌+◌, Bool, true, ◌&&◌, List, [], ◌∷◌, Ok, Result}
+use Rattle.std.specs.Prelude.{ℕ, ◌+◌, Bool, true, ◌&&◌, List, [], ◌∷◌, take, Ok, Result}
 use Rattle.fault.specs.Checks.{◌>>◌}
 use Rattle.fault.specs.declared.Fault.{Fault}
 use Rattle.line.specs.Forms as forms
 use Rattle.line.specs.Forms.{Form}
 use Rattle.line.specs.Layout.{part, header_size}
 use Rattle.line.specs.OrderLine as order
-use Rattle.line.specs.Parts.{plain}
+use Rattle.line.specs.Parts.{Part, plain, end_of}
 use Rattle.line.specs.SetUp.{is_client}
 use Rattle.line.specs.declared.charge.Charge.{Charge}
 use Rattle.line.specs.declared.pit.Pit.{Pit}
@@ -33,12 +33,16 @@ shown r = record {
 abbrev pub text_shaped : Model → Bool
 text_shaped m = order.shaped m.first && order.shaped m.second
 
--- where the ORDERs begin
+-- what lies between header and tag: first ORDER 10, second 150, tag 290
+abbrev pub parts : List Part
+parts = plain order.size ∷ plain order.size ∷ []
+
+-- where the ORDERs begin: right behind the header, and behind one part
 abbrev pub first_at : ℕ
 first_at = header_size
 
 abbrev pub second_at : ℕ
-second_at = first_at + order.size
+second_at = end_of 0 header_size (take 1 parts)
 
 -- 3 to 8 on the ORDERs in turn
 abbrev pub inside : Pit → ℕ → List ℕ → Result (Unit {0}) Fault
@@ -51,13 +55,13 @@ inside pit at bytes = do
 abbrev pub form : Form Model
 form = record {
   kind = 7;
-  parts = plain order.size ∷ plain order.size ∷ [];
+  parts = parts;
   count = λ m. 0;
   sender = λ m. m.sender;
   view = λ m. m.view;
   values = λ m. (order.line m.first, (order.line m.second, tt));
   tag = λ m. m.tag;
-  saying = λ sender view vs tag. record {
+  record_of = λ sender view vs tag. record {
     sender = sender;
     view = view;
     first = order.fields vs.0;

@@ -4,7 +4,7 @@ use Rattle.fault.specs.declared.Fault.{Fault}
 use Rattle.line.specs.Forms as forms
 use Rattle.line.specs.Forms.{Form}
 use Rattle.line.specs.Layout.{place_width, history_width, client_width, stamp_width}
-use Rattle.line.specs.Parts.{numeric, plain}
+use Rattle.line.specs.Parts.{Part, numeric, plain}
 use Rattle.line.specs.Rules.{in_numbers, in_clients}
 use Rattle.line.specs.SetUp.{is_replica}
 use Rattle.line.specs.declared.committed.Committed.{Committed}
@@ -40,17 +40,21 @@ in_range m = in_numbers m.place && in_numbers m.stamp && in_clients m.client
 abbrev pub text_shaped : Model → Bool
 text_shaped m = length m.history == history_width
 
+-- what lies between header and tag: place 10, history 14, client 46, stamp 48, tag 52
+abbrev pub parts : List Part
+parts = numeric place_width ∷ plain history_width ∷ numeric client_width ∷ numeric stamp_width ∷ []
+
 -- the kind
 abbrev pub form : Form Model
 form = record {
   kind = 5;
-  parts = numeric place_width ∷ plain history_width ∷ numeric client_width ∷ numeric stamp_width ∷ [];
+  parts = parts;
   count = λ m. 0;
   sender = λ m. m.sender;
   view = λ m. m.view;
   values = λ m. (m.place, (m.history, (m.client, (m.stamp, tt))));
   tag = λ m. m.tag;
-  saying = λ sender view vs tag. record {
+  record_of = λ sender view vs tag. record {
     sender = sender;
     view = view;
     place = vs.0;

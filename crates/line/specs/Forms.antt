@@ -4,7 +4,7 @@ use Rattle.fault.specs.Checks.{◌>>◌}
 use Rattle.fault.specs.declared.Fault.{Fault}
 use Rattle.line.specs.Layout.{part, number_at, header_size, kind_width, sender_at, sender_width, size_width, tag_width, view_at, view_width}
 use Rattle.line.specs.Parts.{Part, numeric, Values, followed_by, end_of, values_at}
-use Rattle.line.specs.Rules.{entered, sized, ruled}
+use Rattle.line.specs.Rules.{entered, sized, ruled, written, memory_after}
 use Rattle.line.specs.declared.pit.Pit.{Pit}
 
 -- a kind of lines, whose lines say an M
@@ -19,7 +19,7 @@ pub record Form (M : Type 0) : Type 0 where
   pub values : M → Values parts
   pub tag : M → List ℕ
   -- the record that says all that: sender, view, values, tag
-  pub saying : ℕ → ℕ → Values parts → List ℕ → M
+  pub record_of : ℕ → ℕ → Values parts → List ℕ → M
   -- whether the parts of the text have their widths
   pub text_shaped : M → Bool
   -- in a pit: how many entries a line has, who may send it, whether every field is in its range
@@ -62,7 +62,7 @@ module _ {M : Type 0} (form : Form M) where
   -- what the bytes of a line with so many entries say
   abbrev pub fields : ℕ → List ℕ → M
   fields count bytes =
-      form.saying (number_at sender_width sender_at bytes) (number_at view_width view_at bytes)
+      form.record_of (number_at sender_width sender_at bytes) (number_at view_width view_at bytes)
       (values_at count form.parts header_size bytes) (part (tag_at count) tag_width bytes)
 
   -- the size of a line in a pit, and what its bytes say
@@ -103,3 +103,17 @@ module _ {M : Type 0} (form : Form M) where
   passes pit m =
       shaped m && (form.view m == pit.view && (form.may_send pit (form.sender m)
       && (form.in_range pit m && form.inside_passes pit m)))
+
+  -- what writing a record's text answers, and what the memory holds then
+  abbrev pub text_written : M → List ℕ → Result ℕ Fault
+  text_written m out = written (form.text_shaped m) (tag_at (form.count m)) out
+
+  abbrev pub text_memory : M → List ℕ → List ℕ
+  text_memory m out = memory_after (form.text_shaped m) (tag_at (form.count m)) (text m) out
+
+  -- what writing its line answers, and what the memory holds then
+  abbrev pub line_written : M → List ℕ → Result ℕ Fault
+  line_written m out = written (shaped m) (size_of (form.count m)) out
+
+  abbrev pub line_memory : M → List ℕ → List ℕ
+  line_memory m out = memory_after (shaped m) (size_of (form.count m)) (line m) out

@@ -1,6 +1,8 @@
 -- The seven kinds of lines, their numbers, and which of them a machine takes.
 use Rattle.std.specs.Prelude.{ℕ, Bool, cond, List, [], ◌∷◌, Some, None, Option, ◌==◌, Ok, Result}
-use Rattle.fault.specs.Checks.{check, refused, ◌>>◌}
+use Rattle.std.specs.List.{list_any}
+use Rattle.std.specs.Option.{ok_or}
+use Rattle.fault.specs.Checks.{check, fault_at, ◌>>=◌, ◌>>◌}
 use Rattle.fault.specs.declared.Fault.{Fault}
 use Rattle.fault.specs.declared.Reason.TheVariants as reason
 use Rattle.fault.specs.declared.Reason.TheVariants.{LineSize}
@@ -15,7 +17,6 @@ use Rattle.line.specs.Rules.{whole}
 use Rattle.line.specs.SheetLine as sheet
 use Rattle.line.specs.declared.kind.Kind.{Kind}
 use Rattle.line.specs.declared.kind.Kind.TheVariants.{Call, Order, Answer, Cert, Committed, Sheet, Charge}
-use Rattle.line.specs.declared.kind.Kinds.{Kinds}
 
 -- the number by which a line names its kind
 abbrev pub kind_number : Kind → ℕ
@@ -40,23 +41,18 @@ first_named n (k ∷ ks) = cond (n == kind_number k) (Some k) (first_named n ks)
 abbrev pub kind_named : ℕ → Option Kind
 kind_named n = first_named n all_kinds
 
--- a machine takes a kind
-abbrev pub takes : Kinds → Kind → Bool
-takes t Call = t.call
-takes t Order = t.order
-takes t Answer = t.answer
-takes t Cert = t.cert
-takes t Committed = t.committed
-takes t Sheet = t.sheet
-takes t Charge = t.charge
+-- 4 unless a kind has the number
+abbrev pub numbered : ℕ → Result Kind Fault
+numbered n = ok_or (kind_named n) (fault_at reason.Kind 0)
 
--- 4: a kind, and one that is taken
-abbrev pub taken_kind : Kinds → Option Kind → Result Kind Fault
-taken_kind t None = refused reason.Kind 0
-taken_kind t (Some kind) = check (takes t kind) reason.Kind 0 >> Ok kind
+-- a kind is one of those that a machine takes
+abbrev pub takes : List Kind → Kind → Bool
+takes taken kind = list_any (λ k. kind_number k == kind_number kind) taken
 
 -- 3 and 4 on the bytes taken: a whole line, of a kind that is taken
-abbrev pub outer_kind : Kinds → List ℕ → Result Kind Fault
-outer_kind t bytes = do
+abbrev pub outer_kind : List Kind → List ℕ → Result Kind Fault
+outer_kind taken bytes = do
   check (whole bytes) LineSize 0
-  taken_kind t (kind_named (number_at kind_width kind_at bytes))
+  kind ← numbered (number_at kind_width kind_at bytes)
+  check (takes taken kind) reason.Kind 0
+  Ok kind

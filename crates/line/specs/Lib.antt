@@ -1,12 +1,8 @@
 pub mod SetUp
 pub mod Layout
 pub mod Rules
-pub mod Tests
 pub mod Parts
-pub mod Bytes
-pub mod PartsKept
 pub mod Forms
-pub mod FormsKept
 pub mod CallLine
 pub mod OrderLine
 pub mod AnswerLine
@@ -14,6 +10,7 @@ pub mod CertLine
 pub mod CommittedLine
 pub mod SheetLine
 pub mod ChargeLine
-pub mod Shows
 pub mod Kinds
 pub mod Lines
+pub mod Laws
+pub mod lemmas

@@ -14,7 +14,6 @@ use Rattle.line.specs.OrderLine as order
 use Rattle.line.specs.SheetLine as sheet
 use Rattle.line.specs.declared.kind.Kind.{Kind}
 use Rattle.line.specs.declared.kind.Kind.TheVariants.{Call, Order, Answer, Cert, Committed, Sheet, Charge}
-use Rattle.line.specs.declared.kind.Kinds.{Kinds}
 use Rattle.line.specs.declared.lines.Line.{Line}
 use Rattle.line.specs.declared.lines.Line.TheVariants as variant
 use Rattle.line.specs.declared.pit.Pit.{Pit}
@@ -39,19 +38,27 @@ line_shown (variant.Committed r) = marked (committed.shown r)
 line_shown (variant.Sheet r) = printed (sheet.shown r)
 line_shown (variant.Charge r) = charged (charge.shown r)
 
+-- a line read by its form, told as a line of any kind
+abbrev pub read_to : {M : Type 0} → Form M → (M → Model) → Pit → List ℕ → Result Model Fault
+read_to form says pit bytes = do
+  m ← forms.read form pit 0 bytes
+  Ok (says m)
+
 -- checks 5 to 8, by the kind, and then 3 to 8 on the lines inside
 abbrev pub read_as : Pit → List ℕ → Kind → Result Model Fault
-read_as pit bytes Call = forms.read call.form pit 0 bytes >>= (λ m. Ok (called m))
-read_as pit bytes Order = forms.read order.form pit 0 bytes >>= (λ m. Ok (ordered m))
-read_as pit bytes Answer = forms.read answer.form pit 0 bytes >>= (λ m. Ok (answered m))
-read_as pit bytes Cert = forms.read cert.form pit 0 bytes >>= (λ m. Ok (certified m))
-read_as pit bytes Committed = forms.read committed.form pit 0 bytes >>= (λ m. Ok (marked m))
-read_as pit bytes Sheet = forms.read sheet.form pit 0 bytes >>= (λ m. Ok (printed m))
-read_as pit bytes Charge = forms.read charge.form pit 0 bytes >>= (λ m. Ok (charged m))
+read_as pit bytes Call = read_to call.form called pit bytes
+read_as pit bytes Order = read_to order.form ordered pit bytes
+read_as pit bytes Answer = read_to answer.form answered pit bytes
+read_as pit bytes Cert = read_to cert.form certified pit bytes
+read_as pit bytes Committed = read_to committed.form marked pit bytes
+read_as pit bytes Sheet = read_to sheet.form printed pit bytes
+read_as pit bytes Charge = read_to charge.form charged pit bytes
 
 -- what the bytes are to a machine of this pit that takes these kinds
-abbrev pub read : Pit → Kinds → List ℕ → Result Model Fault
-read pit taken bytes = outer_kind taken bytes >>= (λ kind. read_as pit bytes kind)
+abbrev pub read : Pit → List Kind → List ℕ → Result Model Fault
+read pit taken bytes = do
+  kind ← outer_kind taken bytes
+  read_as pit bytes kind
 
 -- what every kind's form tells of a record, of a line of any kind
 abbrev pub by_form : {A : Type 0} → ((M : Type 0) → Form M → M → A) → Model → A

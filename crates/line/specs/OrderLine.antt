@@ -1,12 +1,12 @@
 -- ORDER: the lead gives a CALL its place, and tells the history with it.
-use Rattle.std.specs.Prelude.{ℕ, ◌+◌, Bool, ◌&&◌, List, [], ◌∷◌, length, ◌==◌, Ok, Result}
+use Rattle.std.specs.Prelude.{ℕ, ◌+◌, Bool, ◌&&◌, List, [], ◌∷◌, length, take, ◌==◌, Ok, Result}
 use Rattle.fault.specs.Checks.{◌>>◌}
 use Rattle.fault.specs.declared.Fault.{Fault}
 use Rattle.line.specs.Forms as forms
 use Rattle.line.specs.Forms.{Form}
 use Rattle.line.specs.CallLine as call
 use Rattle.line.specs.Layout.{part, header_size, place_width, history_width}
-use Rattle.line.specs.Parts.{numeric, plain}
+use Rattle.line.specs.Parts.{Part, numeric, plain, end_of}
 use Rattle.line.specs.Rules.{in_numbers}
 use Rattle.line.specs.SetUp.{is_lead}
 use Rattle.line.specs.declared.order.Order.{Order}
@@ -40,9 +40,13 @@ in_range m = in_numbers m.place
 abbrev pub text_shaped : Model → Bool
 text_shaped m = length m.history == history_width && call.shaped m.call
 
--- where the CALL begins
+-- what lies between header and tag: place 10, history 14, CALL 46, tag 108
+abbrev pub parts : List Part
+parts = numeric place_width ∷ plain history_width ∷ plain call.size ∷ []
+
+-- where the CALL begins, behind two parts
 abbrev pub call_at : ℕ
-call_at = header_size + place_width + history_width
+call_at = end_of 0 header_size (take 2 parts)
 
 -- 3 to 8 on the CALL
 abbrev pub inside : Pit → ℕ → List ℕ → Result (Unit {0}) Fault
@@ -54,13 +58,13 @@ inside pit at bytes = do
 abbrev pub form : Form Model
 form = record {
   kind = 2;
-  parts = numeric place_width ∷ plain history_width ∷ plain call.size ∷ [];
+  parts = parts;
   count = λ m. 0;
   sender = λ m. m.sender;
   view = λ m. m.view;
   values = λ m. (m.place, (m.history, (call.line m.call, tt)));
   tag = λ m. m.tag;
-  saying = λ sender view vs tag. record {
+  record_of = λ sender view vs tag. record {
     sender = sender;
     view = view;
     place = vs.0;

@@ -2,7 +2,8 @@
 use Rattle.std.specs.Prelude.{ℕ, ◌%◌, Bool, cond, ◌&&◌, List, ◌++◌, length, drop, Ok, Result, ◌==◌, nat_le, nat_lt}
 use Rattle.fault.specs.Checks.{check, ◌>>◌}
 use Rattle.fault.specs.declared.Fault.{Fault}
-use Rattle.fault.specs.declared.Reason.TheVariants.{Room, LineSize, Kind, KindSize, View, Sender, Range}
+use Rattle.fault.specs.declared.Reason.TheVariants as reason
+use Rattle.fault.specs.declared.Reason.TheVariants.{Room, LineSize, KindSize, View, Sender, Range}
 use Rattle.line.specs.Layout.{number_at, size_at, size_width, kind_at, kind_width, header_size}
 use Rattle.line.specs.SetUp.{clients}
 use Rattle.line.specs.declared.pit.Pit.{Pit}
@@ -15,7 +16,7 @@ whole bytes = nat_le header_size (length bytes) && number_at size_width size_at 
 abbrev pub entered : ℕ → List ℕ → (ℕ → Bool) → Result (Unit {0}) Fault
 entered at bytes takes = do
   check (whole bytes) LineSize at
-  check (takes (number_at kind_width kind_at bytes)) Kind at
+  check (takes (number_at kind_width kind_at bytes)) reason.Kind at
 
 -- 5: the line has the size of its kind
 abbrev pub sized : ℕ → ℕ → List ℕ → Result (Unit {0}) Fault
@@ -54,7 +55,9 @@ writable shaped size out = shaped && nat_le size (length out)
 
 -- what a writer answers: how much it wrote, or refusal 2
 abbrev pub written : Bool → ℕ → List ℕ → Result ℕ Fault
-written shaped size out = check (writable shaped size out) Room 0 >> Ok size
+written shaped size out = do
+  check (writable shaped size out) Room 0
+  Ok size
 
 -- what the memory holds then: the bytes in front, the rest as it was; all as it was where nothing is written
 abbrev pub memory_after : Bool → ℕ → List ℕ → List ℕ → List ℕ

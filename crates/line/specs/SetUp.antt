@@ -11,7 +11,9 @@ allowed f = nat_le 1 f && nat_le f 3
 
 -- what opening a pit answers: 1 unless it stands up to one, two or three
 abbrev pub opened : ℕ → ℕ → Result Pit Fault
-opened f view = check (allowed f) SetUp 0 >> Ok (record { f = f; view = view })
+opened f view = do
+  check (allowed f) SetUp 0
+  Ok (record { f = f; view = view })
 
 -- the number of boxes
 abbrev pub replicas_of : Pit → ℕ

@@ -4,7 +4,7 @@ use Rattle.fault.specs.declared.Fault.{Fault}
 use Rattle.line.specs.Forms as forms
 use Rattle.line.specs.Forms.{Form}
 use Rattle.line.specs.Layout.{place_width, history_width, print_width}
-use Rattle.line.specs.Parts.{numeric, plain}
+use Rattle.line.specs.Parts.{Part, numeric, plain}
 use Rattle.line.specs.Rules.{in_numbers, on_sheet}
 use Rattle.line.specs.SetUp.{is_replica}
 use Rattle.line.specs.declared.sheet.Sheet.{Sheet}
@@ -38,17 +38,21 @@ in_range m = in_numbers m.place && on_sheet m.place
 abbrev pub text_shaped : Model → Bool
 text_shaped m = length m.history == history_width && length m.print == print_width
 
+-- what lies between header and tag: place 10, history 14, print 46, tag 78
+abbrev pub parts : List Part
+parts = numeric place_width ∷ plain history_width ∷ plain print_width ∷ []
+
 -- the kind
 abbrev pub form : Form Model
 form = record {
   kind = 6;
-  parts = numeric place_width ∷ plain history_width ∷ plain print_width ∷ [];
+  parts = parts;
   count = λ m. 0;
   sender = λ m. m.sender;
   view = λ m. m.view;
   values = λ m. (m.place, (m.history, (m.print, tt)));
   tag = λ m. m.tag;
-  saying = λ sender view vs tag. record {
+  record_of = λ sender view vs tag. record {
     sender = sender;
     view = view;
     place = vs.0;

@@ -1,7 +1,7 @@
 //! ANSWER: a box tells a tablet its call's place, the history up to there, and the reply.
 use crate::layout::*;
-use crate::pit::Pit;
 use crate::record::{Form, FromLine};
+use crate::taken::Taken;
 use fault::Fault;
 
 pub const KIND: u16 = 3;
@@ -35,7 +35,7 @@ pub struct Answer<'a> {
 
 impl Form for Answer<'_> {
     ghost use Rattle.line.specs.AnswerLine.{Model as AnswerModel, shown as answer_shown, form as answer_form};
-    ghost use Rattle.line.specs.Shows.{answer_shows};
+    ghost use Rattle.line.specs.lemmas.Shows.{answer_shows};
 
     ghost Model = { AnswerModel };
 
@@ -74,29 +74,29 @@ impl Form for Answer<'_> {
 
 impl<'a> FromLine<'a> for Answer<'a> {
     /// Any box sends ANSWERs. Place and stamp may be given, and there is such a tablet.
-    fn check_itself(pit: &Pit, at: usize, bytes: &'a [u8]) -> Result<(), Fault> {
-        check_size(SIZE, at, bytes)?;
-        let may_send = pit.is_replica(number16(bytes, SENDER_AT));
-        let in_range = in_numbers(number32(bytes, PLACE_AT))
-            && in_numbers(number32(bytes, STAMP_AT))
-            && in_clients(number16(bytes, CLIENT_AT));
-        check_rules(pit, at, number32(bytes, VIEW_AT), may_send, in_range)
+    fn check_itself(line: &Taken<'a>) -> Result<(), Fault> {
+        line.check_size(SIZE)?;
+        let may_send = line.pit.is_replica(line.number16(SENDER_AT));
+        let in_range = in_numbers(line.number32(PLACE_AT))
+            && in_numbers(line.number32(STAMP_AT))
+            && in_clients(line.number16(CLIENT_AT));
+        line.check_rules(may_send, in_range)
     }
 
-    fn check_inside(_pit: &Pit, _at: usize, _bytes: &'a [u8]) -> Result<(), Fault> {
+    fn check_inside(_line: &Taken<'a>) -> Result<(), Fault> {
         Ok(())
     }
 
-    fn of(_pit: &Pit, bytes: &'a [u8]) -> Self {
+    fn of(line: &Taken<'a>) -> Self {
         Answer {
-            sender: number16(bytes, SENDER_AT),
-            view: number32(bytes, VIEW_AT),
-            place: number32(bytes, PLACE_AT),
-            history: part_at(bytes, HISTORY_AT, HISTORY_WIDTH),
-            client: number16(bytes, CLIENT_AT),
-            stamp: number32(bytes, STAMP_AT),
-            reply: part_at(bytes, REPLY_AT, REPLY_WIDTH),
-            tag: part_at(bytes, TAG_AT, TAG_WIDTH),
+            sender: line.number16(SENDER_AT),
+            view: line.number32(VIEW_AT),
+            place: line.number32(PLACE_AT),
+            history: line.part(HISTORY_AT, HISTORY_WIDTH),
+            client: line.number16(CLIENT_AT),
+            stamp: line.number32(STAMP_AT),
+            reply: line.part(REPLY_AT, REPLY_WIDTH),
+            tag: line.part(TAG_AT, TAG_WIDTH),
         }
     }
 }

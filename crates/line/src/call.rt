@@ -1,10 +1,8 @@
 //! CALL: a tablet asks for an operation, under a stamp of its own.
-ghost use Rattle.line.specs.CallLine.{shown, fields};
-ghost use Rattle.std.specs.Prelude.{◌≡◌, length};
-
 use crate::layout::*;
-use crate::pit::{Pit, is_client};
+use crate::pit::is_client;
 use crate::record::{Form, FromLine};
+use crate::taken::Taken;
 use fault::Fault;
 
 pub const KIND: u16 = 1;
@@ -27,23 +25,9 @@ pub struct Call<'a> {
     pub tag: &'a [u8],
 }
 
-/// What the bytes of a CALL say, unchecked.
-pub(crate) fn call_of(bytes: &[u8]) -> Call<'_>
-    requires { length bytes.now ≡ SIZE }
-    ensures { shown result ≡ fields bytes.now }
-{
-    Call {
-        sender: number16(bytes, SENDER_AT),
-        view: number32(bytes, VIEW_AT),
-        stamp: number32(bytes, STAMP_AT),
-        body: part_at(bytes, BODY_AT, BODY_WIDTH),
-        tag: part_at(bytes, TAG_AT, TAG_WIDTH),
-    }
-}
-
 impl Form for Call<'_> {
     ghost use Rattle.line.specs.CallLine.{Model as CallModel, shown as call_shown, form as call_form};
-    ghost use Rattle.line.specs.Shows.{call_shows};
+    ghost use Rattle.line.specs.lemmas.Shows.{call_shows};
 
     ghost Model = { CallModel };
 
@@ -79,18 +63,24 @@ impl Form for Call<'_> {
 
 impl<'a> FromLine<'a> for Call<'a> {
     /// Any tablet sends CALLs. The stamp is one that may be given.
-    fn check_itself(pit: &Pit, at: usize, bytes: &'a [u8]) -> Result<(), Fault> {
-        check_size(SIZE, at, bytes)?;
-        let may_send = is_client(number16(bytes, SENDER_AT));
-        let in_range = in_numbers(number32(bytes, STAMP_AT));
-        check_rules(pit, at, number32(bytes, VIEW_AT), may_send, in_range)
+    fn check_itself(line: &Taken<'a>) -> Result<(), Fault> {
+        line.check_size(SIZE)?;
+        let may_send = is_client(line.number16(SENDER_AT));
+        let in_range = in_numbers(line.number32(STAMP_AT));
+        line.check_rules(may_send, in_range)
     }
 
-    fn check_inside(_pit: &Pit, _at: usize, _bytes: &'a [u8]) -> Result<(), Fault> {
+    fn check_inside(_line: &Taken<'a>) -> Result<(), Fault> {
         Ok(())
     }
 
-    fn of(_pit: &Pit, bytes: &'a [u8]) -> Self {
-        call_of(bytes)
+    fn of(line: &Taken<'a>) -> Self {
+        Call {
+            sender: line.number16(SENDER_AT),
+            view: line.number32(VIEW_AT),
+            stamp: line.number32(STAMP_AT),
+            body: line.part(BODY_AT, BODY_WIDTH),
+            tag: line.part(TAG_AT, TAG_WIDTH),
+        }
     }
 }

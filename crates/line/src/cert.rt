@@ -1,14 +1,15 @@
 //! CERT: a tablet shows that a quorum of boxes gave one ANSWER.
 ghost use Rattle.line.specs.AnswerLine.{shown as answer_shown};
-ghost use Rattle.line.specs.CertLine.{answer_of, shown, fields, in_range, rising, voters, entries_size, size_of};
+ghost use Rattle.line.specs.CertLine.{answer_of, shown, fields, in_range, rising, voters, entry_size, entries_size, size_of};
 ghost use Rattle.line.specs.SetUp.{quorum_of};
 ghost use Rattle.std.specs.Option.{option_map};
-ghost use Rattle.std.specs.Prelude.{◌≡◌, ◌+◌, ◌^◌, ◌<◌, ◌≤◌, length};
+ghost use Rattle.std.specs.Prelude.{◌≡◌, ◌/◌, ◌^◌, ◌<◌, length};
 
 use crate::answer::Answer;
 use crate::layout::*;
 use crate::pit::{FIRST_CLIENT, Pit, is_client};
 use crate::record::{Form, FromLine};
+use crate::taken::Taken;
 use fault::Fault;
 
 pub const KIND: u16 = 4;
@@ -55,26 +56,17 @@ fn entries_of(pit: &Pit) -> usize
     ENTRY_SIZE * pit.quorum() as usize
 }
 
-/// The least number that may follow a box's: they rise strictly.
-fn next_after(voter: u16) -> u16
-    requires { voter < 65535 }
-    ensures { result ≡ voter + 1 }
-{
-    1 + voter
-}
-
 /// The boxes of the entries rise strictly, and all are boxes of the pit.
-fn rises(entries: &[u8], count: u16, replicas: u16) -> bool
-    requires { entries_size count ≤ length entries.now }
-    ensures { result ≡ rising 0 replicas (voters count entries.now) }
+fn rises(entries: &[u8], replicas: u16) -> bool
+    ensures { result ≡ rising 0 replicas (voters (length entries.now / entry_size) entries.now) }
 {
     let mut low = 0;
-    for i in 0..count {
-        let voter = number16(entries, ENTRY_SIZE * i as usize);
+    for entry in entries.chunks_exact(ENTRY_SIZE) {
+        let voter = number16(entry, 0);
         if voter < low || voter >= replicas {
             return false;
         }
-        low = next_after(voter);
+        low = voter + 1;
     }
     true
 }
@@ -109,7 +101,7 @@ impl<'a> Cert<'a> {
 
     /// Place and stamp may be given, the tablet is the sender, and the entries are those of a quorum.
     fn is_in_range(&self, pit: &Pit) -> bool
-        requires { entries_size (quorum_of pit.now) ≤ length self.now.entries.now }
+        requires { length self.now.entries.now ≡ entries_size (quorum_of pit.now) }
         ensures { result ≡ in_range pit.now (shown self.now) }
     {
         in_numbers(self.place)
@@ -117,13 +109,13 @@ impl<'a> Cert<'a> {
             && in_clients(self.client)
             && self.sender == FIRST_CLIENT + self.client
             && self.count == pit.quorum()
-            && rises(self.entries, pit.quorum(), pit.replicas())
+            && rises(self.entries, pit.replicas())
     }
 }
 
 impl Form for Cert<'_> {
     ghost use Rattle.line.specs.CertLine.{Model as CertModel, shown as cert_shown, form as cert_form};
-    ghost use Rattle.line.specs.Shows.{cert_shows};
+    ghost use Rattle.line.specs.lemmas.Shows.{cert_shows};
 
     ghost Model = { CertModel };
 
@@ -167,35 +159,29 @@ impl Form for Cert<'_> {
 
 impl<'a> FromLine<'a> for Cert<'a> {
     /// Any tablet sends CERTs. Place and stamp may be given, the tablet is the sender, and the entries are those of a quorum.
-    fn check_itself(pit: &Pit, at: usize, bytes: &'a [u8]) -> Result<(), Fault> {
-        check_size(ENTRIES_AT + entries_of(pit) + TAG_WIDTH, at, bytes)?;
-        let cert = Self::of(pit, bytes);
-        check_rules(
-            pit,
-            at,
-            cert.view,
-            is_client(cert.sender),
-            cert.is_in_range(pit),
-        )
+    fn check_itself(line: &Taken<'a>) -> Result<(), Fault> {
+        line.check_size(ENTRIES_AT + entries_of(&line.pit) + TAG_WIDTH)?;
+        let cert = Self::of(line);
+        line.check_rules(is_client(cert.sender), cert.is_in_range(&line.pit))
     }
 
-    fn check_inside(_pit: &Pit, _at: usize, _bytes: &'a [u8]) -> Result<(), Fault> {
+    fn check_inside(_line: &Taken<'a>) -> Result<(), Fault> {
         Ok(())
     }
 
-    fn of(pit: &Pit, bytes: &'a [u8]) -> Self {
-        let entries_size = entries_of(pit);
+    fn of(line: &Taken<'a>) -> Self {
+        let entries_size = entries_of(&line.pit);
         Cert {
-            sender: number16(bytes, SENDER_AT),
-            view: number32(bytes, VIEW_AT),
-            place: number32(bytes, PLACE_AT),
-            history: part_at(bytes, HISTORY_AT, HISTORY_WIDTH),
-            client: number16(bytes, CLIENT_AT),
-            stamp: number32(bytes, STAMP_AT),
-            reply: part_at(bytes, REPLY_AT, REPLY_WIDTH),
-            count: number16(bytes, COUNT_AT),
-            entries: part_at(bytes, ENTRIES_AT, entries_size),
-            tag: part_at(bytes, ENTRIES_AT + entries_size, TAG_WIDTH),
+            sender: line.number16(SENDER_AT),
+            view: line.number32(VIEW_AT),
+            place: line.number32(PLACE_AT),
+            history: line.part(HISTORY_AT, HISTORY_WIDTH),
+            client: line.number16(CLIENT_AT),
+            stamp: line.number32(STAMP_AT),
+            reply: line.part(REPLY_AT, REPLY_WIDTH),
+            count: line.number16(COUNT_AT),
+            entries: line.part(ENTRIES_AT, entries_size),
+            tag: line.part(ENTRIES_AT + entries_size, TAG_WIDTH),
         }
     }
 }

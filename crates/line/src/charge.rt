@@ -1,8 +1,9 @@
 //! CHARGE: a tablet shows two ORDERs of the lead that do not go together.
 use crate::layout::*;
-use crate::order::{Order, order_of};
-use crate::pit::{Pit, is_client};
+use crate::order::Order;
+use crate::pit::is_client;
 use crate::record::{Form, FromLine};
+use crate::taken::Taken;
 use crate::{order, record};
 use fault::Fault;
 
@@ -28,7 +29,7 @@ pub struct Charge<'a> {
 
 impl Form for Charge<'_> {
     ghost use Rattle.line.specs.ChargeLine.{Model as ChargeModel, shown as charge_shown, form as charge_form};
-    ghost use Rattle.line.specs.Shows.{charge_shows};
+    ghost use Rattle.line.specs.lemmas.Shows.{charge_shows};
 
     ghost Model = { ChargeModel };
 
@@ -64,28 +65,26 @@ impl Form for Charge<'_> {
 
 impl<'a> FromLine<'a> for Charge<'a> {
     /// Any tablet sends CHARGEs. A CHARGE has no number of its own.
-    fn check_itself(pit: &Pit, at: usize, bytes: &'a [u8]) -> Result<(), Fault> {
-        check_size(SIZE, at, bytes)?;
-        let may_send = is_client(number16(bytes, SENDER_AT));
+    fn check_itself(line: &Taken<'a>) -> Result<(), Fault> {
+        line.check_size(SIZE)?;
+        let may_send = is_client(line.number16(SENDER_AT));
         let in_range = true;
-        check_rules(pit, at, number32(bytes, VIEW_AT), may_send, in_range)
+        line.check_rules(may_send, in_range)
     }
 
-    fn check_inside(pit: &Pit, at: usize, bytes: &'a [u8]) -> Result<(), Fault> {
-        let first = part_at(bytes, FIRST_AT, order::SIZE);
-        record::read_inner::<Order>(order::KIND, pit, at + FIRST_AT, first)?;
-        let second = part_at(bytes, SECOND_AT, order::SIZE);
-        record::read_inner::<Order>(order::KIND, pit, at + SECOND_AT, second)?;
+    fn check_inside(line: &Taken<'a>) -> Result<(), Fault> {
+        record::read_inner::<Order>(order::KIND, &line.inner(FIRST_AT, order::SIZE))?;
+        record::read_inner::<Order>(order::KIND, &line.inner(SECOND_AT, order::SIZE))?;
         Ok(())
     }
 
-    fn of(_pit: &Pit, bytes: &'a [u8]) -> Self {
+    fn of(line: &Taken<'a>) -> Self {
         Charge {
-            sender: number16(bytes, SENDER_AT),
-            view: number32(bytes, VIEW_AT),
-            first: order_of(part_at(bytes, FIRST_AT, order::SIZE)),
-            second: order_of(part_at(bytes, SECOND_AT, order::SIZE)),
-            tag: part_at(bytes, TAG_AT, TAG_WIDTH),
+            sender: line.number16(SENDER_AT),
+            view: line.number32(VIEW_AT),
+            first: Order::of(&line.inner(FIRST_AT, order::SIZE)),
+            second: Order::of(&line.inner(SECOND_AT, order::SIZE)),
+            tag: line.part(TAG_AT, TAG_WIDTH),
         }
     }
 }

@@ -1,11 +1,9 @@
 //! How numbers and parts lie in a line, and the rules that every kind is read by.
-ghost use Rattle.fault.specs.Checks.{check};
 ghost use Rattle.line.specs.Layout.{number_at, part, bytes_of};
-ghost use Rattle.line.specs.Rules.{entered, sized, ruled, in_numbers, in_clients, on_sheet, whole};
-ghost use Rattle.std.specs.Prelude.{◌≡◌, ◌+◌, ◌≤◌, ◌++◌, length, take, nat_eq, OnOk};
+ghost use Rattle.line.specs.Rules.{in_numbers, in_clients, on_sheet, whole};
+ghost use Rattle.std.specs.Prelude.{◌≡◌, ◌+◌, ◌≤◌, ◌++◌, length, take, drop};
 
-use crate::pit::{CLIENTS, Pit};
-use fault::{Fault, Reason};
+use crate::pit::CLIENTS;
 
 /// Every line begins with its size, kind, sender and view.
 pub const SIZE_AT: usize = 0;
@@ -29,6 +27,7 @@ pub const VIEW_WIDTH: usize = 4;
 pub const HEADER_SIZE: usize = VIEW_AT + VIEW_WIDTH;
 
 /// The widths of what lies between header and tag, and of the tag.
+// Each kind lists the offsets of its own parts: they are the format.
 pub const STAMP_WIDTH: usize = 4;
 
 pub const PLACE_WIDTH: usize = 4;
@@ -55,20 +54,31 @@ pub const LAST_NUMBER: u32 = 1_000_000;
 /// Sheets are made at every eighth place.
 pub const SHEET_STEP: u32 = 8;
 
+/// The bytes of a part whose width the caller's type tells.
+fn array_at<const WIDTH: usize>(bytes: &[u8], at: usize) -> [u8; WIDTH]
+    requires { at + WIDTH ≤ length bytes.now }
+    ensures value { result ≡ part at WIDTH bytes.now }
+    ensures len { length result ≡ WIDTH }
+{
+    <[u8; WIDTH]>::try_from(&bytes[at..at + WIDTH]).unwrap()
+}
+
 /// The 16-bit number at an offset.
+#[tactic(auto, using(crate::proofs::Numbers::number_2))]
 pub(crate) fn number16(bytes: &[u8], at: usize) -> u16
     requires { at + 2 ≤ length bytes.now }
     ensures { result ≡ number_at 2 at bytes.now }
 {
-    u16::from_le_bytes([bytes[at], bytes[at + 1]])
+    u16::from_le_bytes(array_at(bytes, at))
 }
 
 /// The 32-bit number at an offset.
+#[tactic(auto, using(crate::proofs::Numbers::number_4))]
 pub(crate) fn number32(bytes: &[u8], at: usize) -> u32
     requires { at + 4 ≤ length bytes.now }
     ensures { result ≡ number_at 4 at bytes.now }
 {
-    u32::from_le_bytes([bytes[at], bytes[at + 1], bytes[at + 2], bytes[at + 3]])
+    u32::from_le_bytes(array_at(bytes, at))
 }
 
 /// The part that begins at an offset and has a width.
@@ -87,57 +97,11 @@ pub(crate) fn is_whole(bytes: &[u8]) -> bool
     bytes.len() >= HEADER_SIZE && number16(bytes, SIZE_AT) as usize == bytes.len()
 }
 
-/// An inner line must tell its own size, and be of the kind that stands here.
-pub(crate) fn check_inner(kind: u16, at: usize, bytes: &[u8]) -> Result<(), Fault>
-    ensures { result ≡ entered at bytes.now (λ k. nat_eq k kind) }
-{
-    if !is_whole(bytes) {
-        return Err(Fault::at(Reason::LineSize, at));
-    }
-    if number16(bytes, KIND_AT) != kind {
-        return Err(Fault::at(Reason::Kind, at));
-    }
-    Ok(())
-}
-
-/// The line must have the size of its kind.
-pub(crate) fn check_size(size: usize, at: usize, bytes: &[u8]) -> Result<(), Fault>
-    ensures check { result ≡ sized size at bytes.now }
-    ensures size { OnOk result (length bytes.now ≡ size) }
-{
-    if bytes.len() != size {
-        return Err(Fault::at(Reason::KindSize, at));
-    }
-    Ok(())
-}
-
-/// The line must be of the pit's view, from a sender who may send it, with every field in its range.
-pub(crate) fn check_rules(
-    pit: &Pit,
-    at: usize,
-    view: u32,
-    sender_may: bool,
-    in_range: bool,
-) -> Result<(), Fault>
-    ensures { result ≡ ruled pit.now at view sender_may in_range }
-{
-    if view != pit.view() {
-        return Err(Fault::at(Reason::View, at));
-    }
-    if !sender_may {
-        return Err(Fault::at(Reason::Sender, at));
-    }
-    if !in_range {
-        return Err(Fault::at(Reason::Range, at));
-    }
-    Ok(())
-}
-
 /// A place or a stamp.
 pub(crate) fn in_numbers(n: u32) -> bool
     ensures { result ≡ in_numbers n }
 {
-    n >= 1 && n <= LAST_NUMBER
+    (1..=LAST_NUMBER).contains(&n)
 }
 
 /// A tablet's number.
@@ -155,10 +119,12 @@ pub(crate) fn on_sheet(place: u32) -> bool
 }
 
 /// Puts bytes behind those that are written, and answers where they end.
+// Memory and end stay apart: each method of a struct that holds both would also have to say that it lends on the same memory.
 pub(crate) fn put(out: &mut [u8], at: usize, bytes: &[u8]) -> usize
     requires { at + length bytes.now ≤ length out.old }
     ensures end { result ≡ at + length bytes.now }
     ensures front { take result out.new ≡ take at out.old ++ bytes.now }
+    ensures behind { drop result out.new ≡ drop result out.old }
 {
     let end = at + bytes.len();
     out[at..end].copy_from_slice(bytes);
@@ -166,11 +132,13 @@ pub(crate) fn put(out: &mut [u8], at: usize, bytes: &[u8]) -> usize
 }
 
 /// Puts a 16-bit number behind them.
+// Two functions of one line: one for both would need a trait for what `to_le_bytes` gives at each width.
 #[tactic(auto, using(crate::proofs::Puts::bytes_of_2))]
 pub(crate) fn put16(out: &mut [u8], at: usize, n: u16) -> usize
     requires { at + 2 ≤ length out.old }
     ensures end { result ≡ at + 2 }
     ensures front { take result out.new ≡ take at out.old ++ bytes_of 2 n }
+    ensures behind { drop result out.new ≡ drop result out.old }
 {
     put(out, at, &n.to_le_bytes())
 }
@@ -181,6 +149,7 @@ pub(crate) fn put32(out: &mut [u8], at: usize, n: u32) -> usize
     requires { at + 4 ≤ length out.old }
     ensures end { result ≡ at + 4 }
     ensures front { take result out.new ≡ take at out.old ++ bytes_of 4 n }
+    ensures behind { drop result out.new ≡ drop result out.old }
 {
     put(out, at, &n.to_le_bytes())
 }
@@ -190,6 +159,7 @@ pub(crate) fn put_header(out: &mut [u8], size: u16, kind: u16, sender: u16, view
     requires { 10 ≤ length out.old }
     ensures end { result ≡ 10 }
     ensures front { take result out.new ≡ ((bytes_of 2 size ++ bytes_of 2 kind) ++ bytes_of 2 sender) ++ bytes_of 4 view }
+    ensures behind { drop result out.new ≡ drop result out.old }
 {
     let at = put16(out, SIZE_AT, size);
     let at = put16(out, at, kind);

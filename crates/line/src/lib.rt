@@ -14,3 +14,4 @@ pub mod order;
 pub mod pit;
 pub mod record;
 pub mod sheet;
+mod taken;

@@ -9,12 +9,13 @@ use crate::call::Call;
 use crate::cert::Cert;
 use crate::charge::Charge;
 use crate::committed::Committed;
-use crate::kind::{Kind, Kinds};
+use crate::kind::{Kind, kind_of};
 use crate::order::Order;
 use crate::pit::Pit;
 use crate::record;
 use crate::record::Record;
 use crate::sheet::Sheet;
+use crate::taken::Taken;
 use fault::Fault;
 
 /// A line, taken apart: its parts lie in the bytes that were read.
@@ -48,16 +49,22 @@ impl Line<'_> {
 }
 
 /// Reads any bytes as a line of this pit, of a kind that is taken. Tags are not looked at.
-pub fn read<'a>(pit: &Pit, taken: &Kinds, bytes: &'a [u8]) -> Result<Line<'a>, Fault>
+pub fn read<'a>(pit: &Pit, taken: &[Kind], bytes: &'a [u8]) -> Result<Line<'a>, Fault>
     ensures { result_map line_shown result ≡ ReadOf pit.now taken.now bytes.now }
 {
-    match taken.kind_of(bytes)? {
-        Kind::Call => Ok(Line::Call(record::read(pit, 0, bytes)?)),
-        Kind::Order => Ok(Line::Order(record::read(pit, 0, bytes)?)),
-        Kind::Answer => Ok(Line::Answer(record::read(pit, 0, bytes)?)),
-        Kind::Cert => Ok(Line::Cert(record::read(pit, 0, bytes)?)),
-        Kind::Committed => Ok(Line::Committed(record::read(pit, 0, bytes)?)),
-        Kind::Sheet => Ok(Line::Sheet(record::read(pit, 0, bytes)?)),
-        Kind::Charge => Ok(Line::Charge(record::read(pit, 0, bytes)?)),
+    let kind = kind_of(taken, bytes)?;
+    let line = &Taken {
+        pit: *pit,
+        at: 0,
+        bytes,
+    };
+    match kind {
+        Kind::Call => Ok(Line::Call(record::read(line)?)),
+        Kind::Order => Ok(Line::Order(record::read(line)?)),
+        Kind::Answer => Ok(Line::Answer(record::read(line)?)),
+        Kind::Cert => Ok(Line::Cert(record::read(line)?)),
+        Kind::Committed => Ok(Line::Committed(record::read(line)?)),
+        Kind::Sheet => Ok(Line::Sheet(record::read(line)?)),
+        Kind::Charge => Ok(Line::Charge(record::read(line)?)),
     }
 }

@@ -1,11 +1,8 @@
 //! ORDER: the lead gives a CALL its place, and tells the history with it.
-ghost use Rattle.line.specs.OrderLine.{shown, fields};
-ghost use Rattle.std.specs.Prelude.{◌≡◌, length};
-
 use crate::call::Call;
 use crate::layout::*;
-use crate::pit::Pit;
 use crate::record::{Form, FromLine};
+use crate::taken::Taken;
 use crate::{call, record};
 use fault::Fault;
 
@@ -32,33 +29,9 @@ pub struct Order<'a> {
     pub tag: &'a [u8],
 }
 
-impl<'a> Order<'a> {
-    /// What the bytes of an ORDER say, unchecked: for a line that was read before.
-    pub fn of(bytes: &'a [u8; SIZE]) -> Order<'a>
-        ensures { shown result ≡ fields bytes.now }
-    {
-        order_of(bytes)
-    }
-}
-
-/// What the bytes of an ORDER say, unchecked.
-pub(crate) fn order_of(bytes: &[u8]) -> Order<'_>
-    requires { length bytes.now ≡ SIZE }
-    ensures { shown result ≡ fields bytes.now }
-{
-    Order {
-        sender: number16(bytes, SENDER_AT),
-        view: number32(bytes, VIEW_AT),
-        place: number32(bytes, PLACE_AT),
-        history: part_at(bytes, HISTORY_AT, HISTORY_WIDTH),
-        call: call::call_of(part_at(bytes, CALL_AT, call::SIZE)),
-        tag: part_at(bytes, TAG_AT, TAG_WIDTH),
-    }
-}
-
 impl Form for Order<'_> {
     ghost use Rattle.line.specs.OrderLine.{Model as OrderModel, shown as order_shown, form as order_form};
-    ghost use Rattle.line.specs.Shows.{order_shows};
+    ghost use Rattle.line.specs.lemmas.Shows.{order_shows};
 
     ghost Model = { OrderModel };
 
@@ -95,24 +68,26 @@ impl Form for Order<'_> {
 
 impl<'a> FromLine<'a> for Order<'a> {
     /// The lead alone sends ORDERs. The place may be given.
-    fn check_itself(pit: &Pit, at: usize, bytes: &'a [u8]) -> Result<(), Fault> {
-        check_size(SIZE, at, bytes)?;
-        let may_send = pit.is_lead(number16(bytes, SENDER_AT));
-        let in_range = in_numbers(number32(bytes, PLACE_AT));
-        check_rules(pit, at, number32(bytes, VIEW_AT), may_send, in_range)
+    fn check_itself(line: &Taken<'a>) -> Result<(), Fault> {
+        line.check_size(SIZE)?;
+        let may_send = line.pit.is_lead(line.number16(SENDER_AT));
+        let in_range = in_numbers(line.number32(PLACE_AT));
+        line.check_rules(may_send, in_range)
     }
 
-    fn check_inside(pit: &Pit, at: usize, bytes: &'a [u8]) -> Result<(), Fault> {
-        record::read_inner::<Call>(
-            call::KIND,
-            pit,
-            at + CALL_AT,
-            part_at(bytes, CALL_AT, call::SIZE),
-        )?;
+    fn check_inside(line: &Taken<'a>) -> Result<(), Fault> {
+        record::read_inner::<Call>(call::KIND, &line.inner(CALL_AT, call::SIZE))?;
         Ok(())
     }
 
-    fn of(_pit: &Pit, bytes: &'a [u8]) -> Self {
-        order_of(bytes)
+    fn of(line: &Taken<'a>) -> Self {
+        Order {
+            sender: line.number16(SENDER_AT),
+            view: line.number32(VIEW_AT),
+            place: line.number32(PLACE_AT),
+            history: line.part(HISTORY_AT, HISTORY_WIDTH),
+            call: Call::of(&line.inner(CALL_AT, call::SIZE)),
+            tag: line.part(TAG_AT, TAG_WIDTH),
+        }
     }
 }

@@ -25,7 +25,7 @@ impl Pit {
     pub fn open(f: u8, view: u32) -> Result<Pit, Fault>
         ensures { result ≡ opened f view }
     {
-        if f < 1 || f > MOST_FAULTS {
+        if !(1..=MOST_FAULTS).contains(&f) {
             return Err(Fault::of(Reason::SetUp));
         }
         Ok(Pit { f, view })
@@ -85,5 +85,5 @@ impl Pit {
 pub fn is_client(party: u16) -> bool
     ensures { result ≡ is_client party }
 {
-    party >= FIRST_CLIENT && party < FIRST_CLIENT + CLIENTS
+    (FIRST_CLIENT..FIRST_CLIENT + CLIENTS).contains(&party)
 }

@@ -1,15 +1,17 @@
 //! What is the same for every kind of lines: writing a record, and checks 3 to 8.
 ghost use Rattle.fault.specs.Checks.{result_map};
-ghost use Rattle.line.specs.Forms.{Form as FormOf, shaped as shaped_in, line as line_in, text as text_in, tag_at as tag_at_in, size_of, size_in, fields_in, checked as checked_in, read as read_as, read_inside as read_inside_as};
-ghost use Rattle.line.specs.FormsKept.{ComesBack, IsWritten, EndsAtTag, Shows, comes_back as comes_back_by, is_written as is_written_by, text_long as long_by};
-ghost use Rattle.line.specs.Rules.{sized, written, memory_after};
-ghost use Rattle.std.specs.Prelude.{◌≡◌, ℕ, ◌+◌, ◌^◌, ◌<◌, ◌≤◌, ◌++◌, true, length, take, OnOk};
+ghost use Rattle.line.specs.Forms.{Form as FormOf, shaped as shaped_in, line as line_in, text as text_in, tag_at as tag_at_in, size_of, size_in, fields_in, checked as checked_in, read as read_by, read_inside as read_inside_by, text_written as text_written_in, text_memory as text_memory_in, line_written as line_written_in, line_memory as line_memory_in};
+ghost use Rattle.line.specs.Laws.{ComesBack, EndsAtTag, IsWritten, Shows};
+ghost use Rattle.line.specs.lemmas.FormsKept.{comes_back as comes_back_by, is_written as is_written_by, ends_at_tag as ends_at_tag_by};
+ghost use Rattle.line.specs.Rules.{sized};
+ghost use Rattle.std.specs.Prelude.{◌≡◌, ℕ, ◌+◌, ◌^◌, ◌<◌, ◌≤◌, ◌++◌, true, length, take, drop, OnOk};
 
 use crate::layout::*;
-use crate::pit::Pit;
+use crate::taken::Taken;
 use fault::{Fault, Reason};
 
 /// The form of one kind: how its record lies in a line.
+// Seven impls of one shape: what differs is which fields a kind has, fields have names, and a macro of our own may write no impl.
 pub(crate) trait Form: Copy {
     /// What a line of the kind says.
     ghost Model: { Type 0 };
@@ -49,74 +51,74 @@ pub(crate) trait Form: Copy {
 
 /// How the record of one kind is read from the bytes of a line, in which its parts lie.
 pub(crate) trait FromLine<'a>: Form {
-    /// Checks 5 to 8 on the line itself, that begins at that byte.
-    fn check_itself(pit: &Pit, at: usize, bytes: &'a [u8]) -> Result<(), Fault>
-        ensures checks { result ≡ checked_in Self.form pit.now at bytes.now }
-        ensures size { OnOk result (length bytes.now ≡ size_in Self.form pit.now) };
+    /// Checks 5 to 8 on the line itself.
+    fn check_itself(line: &Taken<'a>) -> Result<(), Fault>
+        ensures checks { result ≡ checked_in Self.form line.now.pit line.now.at line.now.bytes.now }
+        ensures size { OnOk result (length line.now.bytes.now ≡ size_in Self.form line.now.pit) };
 
-    /// Checks 3 to 8 on the lines inside one that begins at that byte.
-    fn check_inside(pit: &Pit, at: usize, bytes: &'a [u8]) -> Result<(), Fault>
-        requires size { length bytes.now ≡ size_in Self.form pit.now }
-        requires near { at + length bytes.now < 2 ^ 64 }
-        ensures { result ≡ Self.form.inside pit.now at bytes.now };
+    /// Checks 3 to 8 on the lines inside.
+    // Five kinds have none and say so: a body given here would have to be right for every form.
+    fn check_inside(line: &Taken<'a>) -> Result<(), Fault>
+        requires { length line.now.bytes.now ≡ size_in Self.form line.now.pit }
+        ensures { result ≡ Self.form.inside line.now.pit line.now.at line.now.bytes.now };
 
     /// What the bytes say.
-    fn of(pit: &Pit, bytes: &'a [u8]) -> Self
-        requires { length bytes.now ≡ size_in Self.form pit.now }
-        ensures { Self.shown result ≡ fields_in Self.form pit.now bytes.now };
+    fn of(line: &Taken<'a>) -> Self
+        requires { length line.now.bytes.now ≡ size_in Self.form line.now.pit }
+        ensures { Self.shown result ≡ fields_in Self.form line.now.pit line.now.bytes.now };
 }
 
 /// What a line of one kind says.
 pub trait Record {
     /// What a line of the kind says.
-    ghost Says: { Type 0 };
+    ghost Model: { Type 0 };
 
     /// What the record shows.
-    ghost shows: { Self → Says };
+    ghost shown: { Self → Model };
 
     /// The kind.
-    ghost kind: { FormOf Says };
+    ghost form: { FormOf Model };
 
     /// The sender.
     fn sender(&self) -> u16
-        ensures { result ≡ kind.sender (shows self.now) };
+        ensures { result ≡ form.sender (shown self.now) };
 
     /// The tag.
     fn tag(&self) -> &[u8]
-        ensures { result.now ≡ kind.tag (shows self.now) };
+        ensures { result.now ≡ form.tag (shown self.now) };
 
     /// Writes the text into the front of the memory, and answers its size.
     fn write_text(&self, out: &mut [u8]) -> Result<usize, Fault>
-        ensures answer { result ≡ written (kind.text_shaped (shows self.now)) (tag_at_in kind (kind.count (shows self.now))) out.old }
-        ensures after { out.new ≡ memory_after (kind.text_shaped (shows self.now)) (tag_at_in kind (kind.count (shows self.now))) (text_in kind (shows self.now)) out.old };
+        ensures answer { result ≡ text_written_in form (shown self.now) out.old }
+        ensures after { out.new ≡ text_memory_in form (shown self.now) out.old };
 
     /// Writes the line into the front of the memory, and answers its size.
     fn write(&self, out: &mut [u8]) -> Result<usize, Fault>
-        ensures answer { result ≡ written (shaped_in kind (shows self.now)) (size_of kind (kind.count (shows self.now))) out.old }
-        ensures after { out.new ≡ memory_after (shaped_in kind (shows self.now)) (size_of kind (kind.count (shows self.now))) (line_in kind (shows self.now)) out.old };
+        ensures answer { result ≡ line_written_in form (shown self.now) out.old }
+        ensures after { out.new ≡ line_memory_in form (shown self.now) out.old };
 
     /// A record that passes checks 3 to 8, written and read, comes back.
-    ghost comes_back: { ComesBack kind };
+    ghost comes_back: { ComesBack form };
 
     /// A line that reads is the line that its record writes, and its record passes.
-    ghost is_written: { IsWritten kind };
+    ghost is_written: { IsWritten form };
 
     /// A text whose parts have their widths ends where its tag begins.
-    ghost long: { EndsAtTag kind };
+    ghost ends_at_tag: { EndsAtTag form };
 }
 
 impl<F: Form> Record for F {
-    ghost Says = { F.Model };
+    ghost Model = { F.Model };
 
-    ghost shows = { F.shown };
+    ghost shown = { F.shown };
 
-    ghost kind = { F.form };
+    ghost form = { F.form };
 
     ghost comes_back = { comes_back_by F.form F.kept };
 
     ghost is_written = { is_written_by F.form F.kept };
 
-    ghost long = { long_by F.form F.kept };
+    ghost ends_at_tag = { ends_at_tag_by F.form F.kept };
 
     fn sender(&self) -> u16 {
         Form::sender(self)
@@ -158,33 +160,27 @@ pub(crate) fn put_line<F: Form>(line: &F, out: &mut [u8], at: usize) -> usize
     requires room { at + size_of F.form (F.form.count (F.shown line.now)) ≤ length out.old }
     ensures end { result ≡ at + size_of F.form (F.form.count (F.shown line.now)) }
     ensures front { take result out.new ≡ take at out.old ++ line_in F.form (F.shown line.now) }
+    ensures behind { drop result out.new ≡ drop result out.old }
 {
     let end = at + line.tag_at();
     line.fill(&mut out[at..end]);
     put(out, end, line.tag())
 }
 
-/// Reads the line of the kind that the bytes are; they begin at that byte of the line taken.
-pub(crate) fn read<'a, F: FromLine<'a>>(pit: &Pit, at: usize, bytes: &'a [u8]) -> Result<F, Fault>
-    requires { at + length bytes.now < 2 ^ 64 }
-    ensures { result_map F.shown result ≡ read_as F.form pit.now at bytes.now }
+/// Reads the line of the kind that the bytes are.
+pub(crate) fn read<'a, F: FromLine<'a>>(line: &Taken<'a>) -> Result<F, Fault>
+    ensures { result_map F.shown result ≡ read_by F.form line.now.pit line.now.at line.now.bytes.now }
 {
-    F::check_itself(pit, at, bytes)?;
-    F::check_inside(pit, at, bytes)?;
-    Ok(F::of(pit, bytes))
+    F::check_itself(line)?;
+    F::check_inside(line)?;
+    Ok(F::of(line))
 }
 
 /// Reads the line inside another: it must tell its own size and kind first.
-pub(crate) fn read_inner<'a, F: FromLine<'a>>(
-    kind: u16,
-    pit: &Pit,
-    at: usize,
-    bytes: &'a [u8],
-) -> Result<F, Fault>
-    requires named { kind ≡ F.form.kind }
-    requires near { at + length bytes.now < 2 ^ 64 }
-    ensures { result_map F.shown result ≡ read_inside_as F.form pit.now at bytes.now }
+pub(crate) fn read_inner<'a, F: FromLine<'a>>(kind: u16, line: &Taken<'a>) -> Result<F, Fault>
+    requires { kind ≡ F.form.kind }
+    ensures { result_map F.shown result ≡ read_inside_by F.form line.now.pit line.now.at line.now.bytes.now }
 {
-    check_inner(kind, at, bytes)?;
-    read(pit, at, bytes)
+    line.check_inner(kind)?;
+    read(line)
 }

@@ -1,7 +1,7 @@
 //! SHEET: a box tells the others its history and the print of its page, every so many places.
 use crate::layout::*;
-use crate::pit::Pit;
 use crate::record::{Form, FromLine};
+use crate::taken::Taken;
 use fault::Fault;
 
 pub const KIND: u16 = 6;
@@ -29,7 +29,7 @@ pub struct Sheet<'a> {
 
 impl Form for Sheet<'_> {
     ghost use Rattle.line.specs.SheetLine.{Model as SheetModel, shown as sheet_shown, form as sheet_form};
-    ghost use Rattle.line.specs.Shows.{sheet_shows};
+    ghost use Rattle.line.specs.lemmas.Shows.{sheet_shows};
 
     ghost Model = { SheetModel };
 
@@ -66,26 +66,26 @@ impl Form for Sheet<'_> {
 
 impl<'a> FromLine<'a> for Sheet<'a> {
     /// Any box sends SHEETs. The place may be given, and a sheet is made there.
-    fn check_itself(pit: &Pit, at: usize, bytes: &'a [u8]) -> Result<(), Fault> {
-        check_size(SIZE, at, bytes)?;
-        let may_send = pit.is_replica(number16(bytes, SENDER_AT));
-        let place = number32(bytes, PLACE_AT);
+    fn check_itself(line: &Taken<'a>) -> Result<(), Fault> {
+        line.check_size(SIZE)?;
+        let may_send = line.pit.is_replica(line.number16(SENDER_AT));
+        let place = line.number32(PLACE_AT);
         let in_range = in_numbers(place) && on_sheet(place);
-        check_rules(pit, at, number32(bytes, VIEW_AT), may_send, in_range)
+        line.check_rules(may_send, in_range)
     }
 
-    fn check_inside(_pit: &Pit, _at: usize, _bytes: &'a [u8]) -> Result<(), Fault> {
+    fn check_inside(_line: &Taken<'a>) -> Result<(), Fault> {
         Ok(())
     }
 
-    fn of(_pit: &Pit, bytes: &'a [u8]) -> Self {
+    fn of(line: &Taken<'a>) -> Self {
         Sheet {
-            sender: number16(bytes, SENDER_AT),
-            view: number32(bytes, VIEW_AT),
-            place: number32(bytes, PLACE_AT),
-            history: part_at(bytes, HISTORY_AT, HISTORY_WIDTH),
-            print: part_at(bytes, PRINT_AT, PRINT_WIDTH),
-            tag: part_at(bytes, TAG_AT, TAG_WIDTH),
+            sender: line.number16(SENDER_AT),
+            view: line.number32(VIEW_AT),
+            place: line.number32(PLACE_AT),
+            history: line.part(HISTORY_AT, HISTORY_WIDTH),
+            print: line.part(PRINT_AT, PRINT_WIDTH),
+            tag: line.part(TAG_AT, TAG_WIDTH),
         }
     }
 }

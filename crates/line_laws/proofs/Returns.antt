@@ -4,14 +4,14 @@ use Rattle.std.proofs.lemmas.Bool.{eqb-true, and_parts, and_from, eq-eqb}
 use Rattle.fault.specs.Checks.{◌>>=◌}
 use Rattle.line.proofs.Outer.{line_good}
 use Rattle.line.specs.AnswerLine as answer
-use Rattle.line.specs.Bytes.{Bytes}
+use Rattle.line.specs.Laws.{Bytes, Held, Shows}
 use Rattle.line.specs.CallLine as call
 use Rattle.line.specs.CertLine as cert
 use Rattle.line.specs.ChargeLine as charge
 use Rattle.line.specs.CommittedLine as committed
 use Rattle.line.specs.Forms as forms
 use Rattle.line.specs.Forms.{Form}
-use Rattle.line.specs.FormsKept.{Held, Shows, comes_back, is_written, enters, reads, read_passes}
+use Rattle.line.specs.lemmas.FormsKept.{comes_back, is_written, enters, reads, read_passes}
 use Rattle.line.specs.Kinds.{kind_number, kind_named, takes}
 use Rattle.line.specs.Layout.{number_at}
 use Rattle.line.specs.Lines as lines
@@ -19,20 +19,19 @@ use Rattle.line.specs.Lines.{passes, called, ordered, answered, certified, marke
 use Rattle.line.specs.OrderLine as order
 use Rattle.line.specs.Rules.{whole}
 use Rattle.line.specs.SheetLine as sheet
-use Rattle.line.specs.Shows.{call_shows, order_shows, answer_shows, cert_shows, committed_shows, sheet_shows, charge_shows}
-use Rattle.line.specs.Tests.{entered_good, ok_same, bind_ok}
+use Rattle.line.specs.lemmas.Shows.{call_shows, order_shows, answer_shows, cert_shows, committed_shows, sheet_shows, charge_shows}
+use Rattle.line.specs.lemmas.Checked.{entered_good, ok_same, bind_ok}
 use Rattle.line.specs.declared.kind.Kind.{Kind}
 use Rattle.line.specs.declared.kind.Kind.TheVariants.{Call, Order, Answer, Cert, Committed, Sheet, Charge}
-use Rattle.line.specs.declared.kind.Kinds.{Kinds}
 use Rattle.line.specs.declared.pit.Pit.{Pit}
 use Rattle.line_laws.specs.Laws.{everything, retagged}
 
 -- a whole line of a kind is read as that kind
-read_by : {M : Type 0} (pit : Pit) (form : Form M) (says : M → lines.Model) (k : Kind) (bs : List ℕ) (m : M)
+read_outer : {M : Type 0} (pit : Pit) (form : Form M) (says : M → lines.Model) (k : Kind) (bs : List ℕ) (m : M)
     → kind_named form.kind ≡ Some k → takes everything k ≡ true
     → lines.read_as pit bs k ≡ forms.read form pit 0 bs >>= (λ x. Ok (says x))
     → forms.read_inside form pit 0 bs ≡ Ok m → lines.read pit everything bs ≡ Ok (says m)
-read_by pit form says k bs m named taken as_kind e =
+read_outer pit form says k bs m named taken as_kind e =
     let g = entered_good 0 bs (λ n. eqb n form.kind) (forms.read form pit 0 bs) m e in
     rw (g.0.tells, eqb-true _ _ g.0.taken, named) (rw taken (as_kind ∙ ap (λ v. v >>= (λ x. Ok (says x))) g.1))
 
@@ -43,7 +42,7 @@ module _ (pit : Pit) (held : Held pit) where
       → forms.passes form pit m ≡ true → lines.read pit everything (forms.line form m) ≡ Ok (says m)
   back_by form shows says k m named taken as_kind h =
       let bs = forms.line form m in
-      read_by pit form says k bs m named taken (as_kind bs) (comes_back form shows pit 0 m held h)
+      read_outer pit form says k bs m named taken (as_kind bs) (comes_back form shows pit 0 m held h)
 
   pub comes_back_line : (m : lines.Model) → passes pit m ≡ true → lines.read pit everything (lines.line m) ≡ Ok m
   comes_back_line (called m) h = back_by call.form call_shows called Call m refl refl (λ bs. refl) h
@@ -77,7 +76,7 @@ module _ (pit : Pit) (bs : List ℕ) (h : Bytes bs) (w : whole bs ≡ true) wher
   written_as Sheet m n e = written_by sheet.form sheet_shows printed m (λ x. refl) (λ x. refl) n e
   written_as Charge m n e = written_by charge.form charge_shows charged m (λ x. refl) (λ x. refl) n e
 
-pub is_written_line : (pit : Pit) (t : Kinds) (bs : List ℕ) (m : lines.Model) → Bytes bs → lines.read pit t bs ≡ Ok m
+pub is_written_line : (pit : Pit) (t : List Kind) (bs : List ℕ) (m : lines.Model) → Bytes bs → lines.read pit t bs ≡ Ok m
     → (lines.line m ≡ bs) × (passes pit m ≡ true)
 unfolding Written
 is_written_line pit t bs m h e = let g = line_good pit t bs m e in written_as pit bs h g.tells g.kind m g.named g.reads
@@ -101,7 +100,7 @@ module _ (pit : Pit) (bs : List ℕ) where
   passes_as Charge m held e = passes_by charge.form charge_shows charged m (λ x. refl) (omega arith) e
 
 -- what a pit reads whose numbers its memory can hold passes, whatever the elements
-pub reads_pass : (pit : Pit) (t : Kinds) (bs : List ℕ) (m : lines.Model) → Held pit → lines.read pit t bs ≡ Ok m → passes pit m ≡ true
+pub reads_pass : (pit : Pit) (t : List Kind) (bs : List ℕ) (m : lines.Model) → Held pit → lines.read pit t bs ≡ Ok m → passes pit m ≡ true
 reads_pass pit t bs m held e = let g = line_good pit t bs m e in passes_as pit bs g.kind m held g.reads
 
 -- a record with another tag of the right width passes as well

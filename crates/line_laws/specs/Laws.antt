@@ -2,18 +2,18 @@
 use Rattle.std.specs.Prelude.{◌≡◌, ℕ, true, false, List, Ok}
 use Rattle.fault.specs.Checks.{refused}
 use Rattle.fault.specs.declared.Reason.TheVariants.{SetUp}
-use Rattle.line.specs.Bytes.{Bytes}
-use Rattle.line.specs.FormsKept.{Held}
+use Rattle.line.specs.Laws.{Bytes, Held}
+use Rattle.line.specs.Kinds.{all_kinds}
 use Rattle.line.specs.Lines as lines
 use Rattle.line.specs.Lines.{passes, called, ordered, answered, certified, marked, printed, charged}
 use Rattle.line.specs.Rules.{in_numbers}
 use Rattle.line.specs.SetUp.{opened, lead_of}
-use Rattle.line.specs.declared.kind.Kinds.{Kinds}
+use Rattle.line.specs.declared.kind.Kind.{Kind}
 use Rattle.line.specs.declared.pit.Pit.{Pit}
 
 -- a machine that takes every kind
-abbrev pub everything : Kinds
-everything = record { call = true; order = true; answer = true; cert = true; committed = true; sheet = true; charge = true }
+abbrev pub everything : List Kind
+everything = all_kinds
 
 -- a record that passes checks 3 to 8, written and read, comes back
 abbrev pub ComesBack : Type 0
@@ -21,7 +21,7 @@ ComesBack = (pit : Pit) (m : lines.Model) → Held pit → passes pit m ≡ true
 
 -- a line that reads is the line that its record writes, and its record passes
 abbrev pub IsWritten : Type 0
-IsWritten = (pit : Pit) (taken : Kinds) (bytes : List ℕ) (m : lines.Model) → Bytes bytes → lines.read pit taken bytes ≡ Ok m
+IsWritten = (pit : Pit) (taken : List Kind) (bytes : List ℕ) (m : lines.Model) → Bytes bytes → lines.read pit taken bytes ≡ Ok m
     → (lines.line m ≡ bytes) × (passes pit m ≡ true)
 
 -- the record with another tag

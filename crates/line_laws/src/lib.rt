@@ -2,7 +2,7 @@
 
 #![tactic(auto)]
 
-ghost use Rattle.line.specs.FormsKept.{ComesBack as KindComesBack, IsWritten as KindIsWritten};
+ghost use Rattle.line.specs.Laws.{ComesBack as KindComesBack, IsWritten as KindIsWritten};
 ghost use Rattle.line_laws.specs.Laws.{ComesBack, IsWritten, TextTells, SetUps};
 
 use line::record::Record;
@@ -10,8 +10,8 @@ use line::record::Record;
 /// The two laws of a kind, as its trait has them: every record that passes checks 3 to 8, written and read, comes back; and a
 /// line that reads is the line that its record writes.
 pub fn kind_laws_hold<R: Record>()
-    ensures comes_back { KindComesBack R.kind }
-    ensures is_written { KindIsWritten R.kind }
+    ensures comes_back { KindComesBack R.form }
+    ensures is_written { KindIsWritten R.form }
 {}
 
 /// Every record that passes the checks, written and read, comes back; every line that reads is the line that its record

@@ -1,2 +1,1 @@
 pub mod DemonstrationKeys
-pub mod KindSets

@@ -1,6 +1,7 @@
 //! How long the digests and the lead take, for the benchmark scripts: each result goes into the next input, so that no call can be left out.
 ghost use Rattle.std.specs.Prelude.{◌<◌};
 
+use crate::digests::WORK_SIZE;
 use crate::{orders, seals};
 use digest::{hmac_sha256, sha256};
 use lead::Lead;
@@ -9,20 +10,25 @@ use line::pit::Pit;
 use seal::card::Card;
 use std::time::Instant;
 
+/// The large input's size.
 const MEGABYTE: usize = 1_000_000;
 
+/// The small input's size.
 const TEXT_LEN: usize = 60;
 
+/// The key's size.
 const KEY_LEN: usize = 32;
 
-const WORK_LEN: usize = 64;
-
+/// How many digests of the large input are timed.
 const LARGE_ROUNDS: usize = 200;
 
+/// How many tags of the small input are timed.
 const SMALL_ROUNDS: usize = 200_000;
 
+/// How many calls a lead takes.
 const CALLS: u32 = 2_000;
 
+/// How many leads are timed.
 const LEADS: usize = 20;
 
 /// Prints the nanoseconds that one digest of a megabyte, one tag of 60 bytes and one new CALL at a lead took, on average.
@@ -54,16 +60,13 @@ fn average<F: FnMut() -> anyhow::Result<()>>(
 
 /// New CALLs of one tablet at a lead with a card.
 fn lead_calls(rt: &HostRuntime) -> anyhow::Result<u128> {
-    let mut lines: Vec<u8> = Vec::new(rt.alloc());
-    for stamp in 1..=CALLS {
-        lines.extend_from_slice(&orders::bare_call(stamp)?)?;
-    }
+    let lines: Vec<[u8; call::SIZE]> = (1..=CALLS).map(orders::bare_call).try_collect(rt.alloc())?;
     let pit = Pit::open(1, 0)?;
     let mut seal = Card::open(pit.lead(), seals::demonstration_keys()?);
     let mut out: Vec<u8> = vec![in rt.alloc(); 0; step::LEAST_ROOM]?;
     let each = average(rt, LEADS, || {
         let mut lead = Lead::open(1, 0, pit.lead())?;
-        for line in lines.as_slice().chunks_exact(call::SIZE) {
+        for line in &lines {
             lead.take(&mut seal, line, out.as_mut_slice())?;
         }
         Ok(())
@@ -71,6 +74,7 @@ fn lead_calls(rt: &HostRuntime) -> anyhow::Result<u128> {
     Ok(each / u128::from(CALLS))
 }
 
+/// Digests of a megabyte.
 fn large_digests(rt: &HostRuntime) -> anyhow::Result<u128> {
     let mut input: Vec<u8> = vec![in rt.alloc(); 0; MEGABYTE]?;
     average(rt, LARGE_ROUNDS, || {
@@ -82,10 +86,11 @@ fn large_digests(rt: &HostRuntime) -> anyhow::Result<u128> {
     })
 }
 
+/// Tags of 60 bytes.
 fn small_tags(rt: &HostRuntime) -> anyhow::Result<u128> {
     let key = [7; KEY_LEN];
     let mut text = [0; TEXT_LEN];
-    let mut work = [0; WORK_LEN];
+    let mut work = [0; WORK_SIZE];
     average(rt, SMALL_ROUNDS, || {
         let tag = hmac_sha256(&key, &text, &mut work)?;
         text[0] = tag[0];

@@ -5,23 +5,21 @@ use std::fmt;
 
 /// Bytes that print as hex, and as `-` where there are none.
 #[derive(Drop)]
-pub(crate) struct Hex<'a> {
-    pub bytes: &'a [u8],
-}
+pub(crate) struct Hex<'a>(pub &'a [u8]);
 
 impl fmt::Display for Hex<'_> {
     fn fmt<W: fmt::Write>(&self, f: &mut fmt::Formatter<W>) -> fmt::Result {
-        if self.bytes.is_empty() {
+        if self.0.is_empty() {
             return write!(f, "-");
         }
-        for byte in self.bytes {
+        for byte in self.0 {
             write!(f, "{byte:02x}")?;
         }
         Ok(())
     }
 }
 
-/// The bytes that a word of a command writes; `-` is no bytes, and a word of no digits is none.
+/// The bytes that a word of a command writes; `-` writes none. A word that is not hex, or has no digits, is a bad command.
 pub(crate) fn read(heap: Global, word: &str) -> Result<Vec<u8>, Trouble> {
     match word {
         "" => Err(Trouble::BadCommand),

@@ -1,41 +1,34 @@
 //! Commands that come one a line: each is answered, or told why not.
-use anyhow::anyhow;
 use fault::Fault;
 use hex::FromHexError;
+use seal::register::Unopened;
 use std::alloc::AllocError;
+use std::io;
 use std::io::{BufRead, BufReader};
 use std::num::ParseIntError;
-use std::{fmt, io};
+use thiserror::Error;
 
-/// Why a command gets no answer.
-#[derive(Drop)]
+/// Why a command gets no answer. After the first two the next command is obeyed; the others end the program.
+#[derive(Debug, Drop, Error)]
 pub(crate) enum Trouble {
     /// It says nothing that can be done.
+    #[error("bad command")]
     BadCommand,
-    /// What it asks for is refused.
-    Refused(Fault),
-    /// The program cannot go on.
-    Failed(anyhow::Error),
-}
-
-impl fmt::Display for Trouble {
-    fn fmt<W: fmt::Write>(&self, f: &mut fmt::Formatter<W>) -> fmt::Result {
-        match self {
-            Trouble::BadCommand => write!(f, "bad command"),
-            Trouble::Refused(fault) => {
-                let number = fault.reason.number();
-                let offset = fault.offset;
-                write!(f, "refused {number} {offset}")
-            }
-            Trouble::Failed(error) => write!(f, "{error}"),
-        }
-    }
-}
-
-impl From<Fault> for Trouble {
-    fn from(fault: Fault) -> Trouble {
-        Trouble::Refused(fault)
-    }
+    /// What it asks for is refused: the reason's number, and the byte at fault.
+    #[error("refused {number} {offset}", number = .0.reason.number(), offset = .0.offset)]
+    Refused(#[from] Fault),
+    /// There is no memory for it.
+    #[error(transparent)]
+    Memory(#[from] AllocError),
+    /// There is no memory for the bytes that it writes in hex.
+    #[error(transparent)]
+    HexMemory(FromHexError),
+    /// No register can be opened for it.
+    #[error(transparent)]
+    Unopened(#[from] Unopened),
+    /// Reading commands or printing answers fails.
+    #[error(transparent)]
+    Io(#[from] io::Error),
 }
 
 impl From<ParseIntError> for Trouble {
@@ -47,40 +40,24 @@ impl From<ParseIntError> for Trouble {
 impl From<FromHexError> for Trouble {
     fn from(error: FromHexError) -> Trouble {
         match error {
-            FromHexError::OutOfMemory => Trouble::Failed(anyhow!(error)),
+            FromHexError::OutOfMemory => Trouble::HexMemory(error),
             _ => Trouble::BadCommand,
         }
     }
 }
 
-impl From<AllocError> for Trouble {
-    fn from(error: AllocError) -> Trouble {
-        Trouble::Failed(anyhow!(error))
-    }
-}
-
-impl From<io::Error> for Trouble {
-    fn from(error: io::Error) -> Trouble {
-        Trouble::Failed(anyhow!(error))
-    }
-}
-
-impl From<anyhow::Error> for Trouble {
-    fn from(error: anyhow::Error) -> Trouble {
-        Trouble::Failed(error)
-    }
-}
-
 /// Prints why a command got no answer, and goes on unless the program cannot.
 pub(crate) fn tell(rt: &HostRuntime, done: Result<(), Trouble>) -> anyhow::Result<()> {
-    match done {
-        Ok(()) => Ok(()),
-        Err(Trouble::Failed(error)) => Err(error),
-        Err(trouble) => Ok(println!(rt; "{trouble}")?),
+    let Err(trouble) = done else {
+        return Ok(());
+    };
+    match trouble {
+        Trouble::BadCommand | Trouble::Refused(_) => Ok(println!(rt; "{trouble}")?),
+        _ => Err(trouble.into()),
     }
 }
 
-/// Obeys each line of standard input.
+/// Obeys each line of standard input, and tells what came of it; ends at the first error that no next command can mend.
 pub(crate) fn each_line<F: FnMut(&str) -> Result<(), Trouble>>(
     rt: &HostRuntime,
     mut obey: F,
@@ -92,4 +69,11 @@ pub(crate) fn each_line<F: FnMut(&str) -> Result<(), Trouble>>(
         tell(rt, obey(line.as_str()))?;
     }
     Ok(())
+}
+
+/// F and VIEW as a command writes them. An F that no byte holds is as much too large as 255 is; a word that is no number, or
+/// one above 2^64 - 1 or 2^32 - 1, is a bad command.
+pub(crate) fn read_set_up(f: &str, view: &str) -> Result<(u8, u32), Trouble> {
+    let f = u8::try_from(f.parse::<u64>()?).unwrap_or(u8::MAX);
+    Ok((f, view.parse::<u32>()?))
 }

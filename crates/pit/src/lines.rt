@@ -1,29 +1,24 @@
 //! Lines in words: what bytes are to a pit, for people and for tests.
-ghost use Rattle.pit.specs.KindSets.{and_kind};
-ghost use Rattle.std.specs.Prelude.{◌≡◌};
-
 use crate::bytes;
 use crate::bytes::Hex;
-use crate::command::{Trouble, each_line, tell};
+use crate::command::{Trouble, each_line, read_set_up, tell};
 use line::answer::Answer;
 use line::call::Call;
 use line::cert::Cert;
 use line::charge::Charge;
 use line::committed::Committed;
-use line::kind::{Kind, Kinds};
+use line::kind::Kind;
 use line::lines;
 use line::lines::Line;
 use line::order::Order;
 use line::pit::Pit;
 use line::sheet::Sheet;
+use std::alloc::{AllocError, Global};
 use std::{fmt, io};
 
-/// Bytes, for printing.
-fn hex(bytes: &[u8]) -> Hex<'_> {
-    Hex { bytes }
-}
-
 /// A line or a part of one, in words.
+// One `Display` for each kind: its format string shows the words as they are printed, and a list of named parts that one
+// function prints is no shorter for any kind.
 #[derive(Drop)]
 struct Words<T>(T);
 
@@ -36,8 +31,8 @@ impl fmt::Display for Words<Call<'_>> {
             c.sender,
             c.view,
             c.stamp,
-            hex(c.body),
-            hex(c.tag)
+            Hex(c.body),
+            Hex(c.tag)
         )
     }
 }
@@ -51,8 +46,8 @@ impl fmt::Display for Words<Order<'_>> {
             c.sender,
             c.view,
             c.place,
-            hex(c.history),
-            hex(c.tag),
+            Hex(c.history),
+            Hex(c.tag),
             Words(c.call)
         )
     }
@@ -67,15 +62,15 @@ impl fmt::Display for Words<Answer<'_>> {
             c.sender,
             c.view,
             c.place,
-            hex(c.history)
+            Hex(c.history)
         )?;
         write!(
             f,
             "tablet {} stamp {} reply {} tag {}",
             c.client,
             c.stamp,
-            hex(c.reply),
-            hex(c.tag)
+            Hex(c.reply),
+            Hex(c.tag)
         )
     }
 }
@@ -89,14 +84,14 @@ impl fmt::Display for Words<Committed<'_>> {
             c.sender,
             c.view,
             c.place,
-            hex(c.history)
+            Hex(c.history)
         )?;
         write!(
             f,
             "tablet {} stamp {} tag {}",
             c.client,
             c.stamp,
-            hex(c.tag)
+            Hex(c.tag)
         )
     }
 }
@@ -110,9 +105,9 @@ impl fmt::Display for Words<Sheet<'_>> {
             c.sender,
             c.view,
             c.place,
-            hex(c.history),
-            hex(c.print),
-            hex(c.tag)
+            Hex(c.history),
+            Hex(c.print),
+            Hex(c.tag)
         )
     }
 }
@@ -125,7 +120,7 @@ impl fmt::Display for Words<Charge<'_>> {
             "CHARGE from {} view {} tag {}: {}; {}",
             c.sender,
             c.view,
-            hex(c.tag),
+            Hex(c.tag),
             Words(c.first),
             Words(c.second)
         )
@@ -141,20 +136,18 @@ impl fmt::Display for Words<Cert<'_>> {
             c.sender,
             c.view,
             c.place,
-            hex(c.history)
+            Hex(c.history)
         )?;
         write!(
             f,
             "tablet {} stamp {} reply {} tag {}:",
             c.client,
             c.stamp,
-            hex(c.reply),
-            hex(c.tag)
+            Hex(c.reply),
+            Hex(c.tag)
         )?;
-        for i in 0..c.count {
-            if let Some(answer) = c.answer(i) {
-                write!(f, " box {} tag {}", answer.sender, hex(answer.tag))?;
-            }
+        for answer in (0..c.count).filter_map(|i| c.answer(i)) {
+            write!(f, " box {} tag {}", answer.sender, Hex(answer.tag))?;
         }
         Ok(())
     }
@@ -173,53 +166,17 @@ fn print_line(rt: &HostRuntime, line: &Line) -> io::Result<()> {
     }
 }
 
-/// The set with one kind more.
-fn with_kind(kinds: Kinds, kind: Kind) -> Kinds
-    ensures { result ≡ and_kind kinds kind }
-{
-    match kind {
-        Kind::Call => Kinds {
-            call: true,
-            ..kinds
-        },
-        Kind::Order => Kinds {
-            order: true,
-            ..kinds
-        },
-        Kind::Answer => Kinds {
-            answer: true,
-            ..kinds
-        },
-        Kind::Cert => Kinds {
-            cert: true,
-            ..kinds
-        },
-        Kind::Committed => Kinds {
-            committed: true,
-            ..kinds
-        },
-        Kind::Sheet => Kinds {
-            sheet: true,
-            ..kinds
-        },
-        Kind::Charge => Kinds {
-            charge: true,
-            ..kinds
-        },
-    }
+/// The kind that a word names by its number.
+fn read_kind(word: &str) -> Result<Kind, Trouble> {
+    Kind::try_from(word.parse::<u16>()?).map_err(|_| Trouble::BadCommand)
 }
 
 /// The kinds that a word names: `all`, or their numbers with commas between.
-fn read_kinds(word: &str) -> Result<Kinds, Trouble> {
-    if word == "all" {
-        return Ok(Kinds::ALL);
+fn read_kinds(heap: Global, word: &str) -> Result<Vec<Kind>, Trouble> {
+    match word {
+        "all" => Ok(Vec::from_slice(heap, &Kind::ALL)?),
+        _ => word.split(',').map(read_kind).try_collect(heap),
     }
-    let mut kinds = Kinds::NONE;
-    for part in word.split(',') {
-        let kind = Kind::named(part.parse::<u16>()?).ok_or(Trouble::BadCommand)?;
-        kinds = with_kind(kinds, kind);
-    }
-    Ok(kinds)
 }
 
 /// Reads bytes as a line of a pit, and prints what they are.
@@ -228,10 +185,10 @@ fn read(rt: &HostRuntime, words: &[&str]) -> Result<(), Trouble> {
         return Err(Trouble::BadCommand);
     };
     let bytes = bytes::read(rt.alloc(), bytes)?;
-    let (f, view) = (f.parse::<u64>()?, view.parse::<u32>()?);
-    let kinds = read_kinds(kinds)?;
-    let pit = Pit::open(f.min(255) as u8, view)?;
-    Ok(print_line(rt, &lines::read(&pit, &kinds, bytes.as_slice())?)?)
+    let (f, view) = read_set_up(f, view)?;
+    let kinds = read_kinds(rt.alloc(), kinds)?;
+    let pit = Pit::open(f, view)?;
+    Ok(print_line(rt, &lines::read(&pit, kinds.as_slice(), bytes.as_slice())?)?)
 }
 
 /// `pit read F VIEW KINDS HEX`.

@@ -58,6 +58,8 @@ fn main(rt: HostRuntime) -> ExitCode {
     }
 }
 
+/// Runs the command that the program's arguments say.
+// A switch on patterns and no table of functions: the pattern says how many words a command has and names each.
 fn run(rt: &HostRuntime) -> anyhow::Result<()> {
     let words: Vec<String> = env::args(rt)?.skip(1).collect(rt.alloc())?;
     let words: Vec<&str> = words.iter().map(|word| word.as_str()).collect(rt.alloc())?;

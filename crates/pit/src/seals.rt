@@ -14,12 +14,12 @@ use seal::card::{Card, KEY_SIZE, Key};
 use seal::party::{BOXES, FIRST_TABLET, PARTIES};
 use seal::promises::stamp_and_check;
 use seal::register::Register;
-use std::fs;
+use std::{array, fs};
 use step::CALL_TEXT_SIZE;
 use thiserror::Error;
 
 /// Two hex digits for each byte of a key.
-const KEY_DIGITS: usize = 64;
+const KEY_DIGITS: usize = 2 * KEY_SIZE;
 
 /// The line that is one too many.
 const TOO_MANY: usize = PARTIES + 1;
@@ -44,11 +44,7 @@ fn party_at(place: usize) -> u16
 pub(crate) fn demonstration_keys() -> Result<[Key; PARTIES], Fault>
     ensures { AllMade result }
 {
-    let mut keys = [[0; KEY_SIZE]; PARTIES];
-    for place in 0..PARTIES {
-        keys[place] = sha256(&party_at(place).to_le_bytes())?;
-    }
-    Ok(keys)
+    array::try_from_fn(|place| sha256(&party_at(place).to_le_bytes()))
 }
 
 /// Obeys `ready PARTY`, `stamp PARTY TEXT` or `check PARTY TEXT TAG`.
@@ -57,30 +53,24 @@ fn obey<S: Seal>(rt: &HostRuntime, seal: &mut S, line: &str) -> Result<(), Troub
     let words: Vec<&str> = line.split(' ').collect(heap)?;
     match words.as_slice() {
         ["ready", party] => {
-            let said = word(seal.ready(party.parse::<u16>()?));
-            Ok(println!(rt; "{said}")?)
+            let said = seal.ready(party.parse::<u16>()?);
+            Ok(println!(rt; "{}", word(said))?)
         }
         ["stamp", party, text] => {
             let party = party.parse::<u16>()?;
             let text = bytes::read(heap, text)?;
             let tag = seal.stamp(party, text.as_slice())?;
-            let tag = Hex { bytes: &tag };
-            Ok(println!(rt; "ok {tag}")?)
+            Ok(println!(rt; "ok {}", Hex(&tag))?)
         }
         ["check", party, text, tag] => {
             let party = party.parse::<u16>()?;
             let text = bytes::read(heap, text)?;
             let tag = bytes::read(heap, tag)?;
-            let said = word(seal.check(party, text.as_slice(), tag.as_slice()));
-            Ok(println!(rt; "{said}")?)
+            let said = seal.check(party, text.as_slice(), tag.as_slice());
+            Ok(println!(rt; "{}", word(said))?)
         }
         _ => Err(Trouble::BadCommand),
     }
-}
-
-/// A new register, or why there is none in words.
-pub(crate) fn open_register(rt: &HostRuntime, rows: usize) -> anyhow::Result<Register> {
-    Ok(Register::open(rt.alloc(), rows)?)
 }
 
 /// `pit seal card OWNER`: answers commands from standard input.
@@ -91,7 +81,7 @@ pub(crate) fn serve_card(rt: &HostRuntime, owner: &str) -> anyhow::Result<()> {
 
 /// `pit seal register ROWS`: answers commands from standard input.
 pub(crate) fn serve_register(rt: &HostRuntime, rows: &str) -> anyhow::Result<()> {
-    let mut register = open_register(rt, rows.parse::<usize>()?)?;
+    let mut register = Register::open(rt.alloc(), rows.parse::<usize>()?)?;
     each_line(rt, |line| obey(rt, &mut register, line))
 }
 
@@ -110,34 +100,29 @@ enum KeyFault {
 
 /// The key that one line writes.
 fn read_key(line: usize, digits: &str) -> Result<Key, KeyFault> {
-    match <Key as FromHex>::from_hex(digits) {
-        Ok(key) => Ok(key),
-        Err(FromHexError::InvalidHexCharacter { index, .. }) => Err(KeyFault::Digit {
+    <Key as FromHex>::from_hex(digits).map_err(|error| match error {
+        FromHexError::InvalidHexCharacter { index, .. } => KeyFault::Digit {
             line,
             column: index.saturating_add(1),
-        }),
-        Err(_) => Err(KeyFault::Length {
+        },
+        _ => KeyFault::Length {
             line,
             found: digits.len(),
-        }),
-    }
+        },
+    })
 }
 
 /// The 26 keys that a text writes, one to a line: those of the boxes, then those of the tablets.
 fn read_keys(text: &str) -> Result<[Key; PARTIES], KeyFault> {
-    let mut keys = [[0; KEY_SIZE]; PARTIES];
-    let mut found = 0;
-    for line in text.lines() {
-        if found >= PARTIES {
-            return Err(KeyFault::TooMany);
-        }
-        keys[found] = read_key(found + 1, line)?;
-        found += 1;
+    let mut lines = text.lines();
+    let keys = array::try_from_fn(|found| {
+        let digits = lines.next().ok_or(KeyFault::TooFew { found })?;
+        read_key(found + 1, digits)
+    })?;
+    match lines.next() {
+        None => Ok(keys),
+        Some(_) => Err(KeyFault::TooMany),
     }
-    if found < PARTIES {
-        return Err(KeyFault::TooFew { found });
-    }
-    Ok(keys)
 }
 
 /// `pit keys FILE`: says that the file has the 26 keys, or what is wrong with it.
@@ -147,24 +132,21 @@ pub(crate) fn keys_file(rt: &HostRuntime, path: &str) -> anyhow::Result<()> {
     Ok(println!(rt; "{PARTIES} keys read")?)
 }
 
+/// What a seal says, in a word.
 fn word(said: bool) -> &'static str {
     if said { "yes" } else { "no" }
 }
 
-/// Stamps a text, shows its tag and what the check says of it, and that a damaged text is refused.
-fn show_stamp<S: Seal>(
-    rt: &HostRuntime,
-    seal: &mut S,
-    party: u16,
-    text: &mut [u8; CALL_TEXT_SIZE],
-) -> anyhow::Result<()> {
-    match stamp_and_check(seal, party, text) {
+/// Stamps a call's text, shows its tag and what the check says of it, and that a damaged text is refused.
+fn show_stamp<S: Seal>(rt: &HostRuntime, seal: &mut S, call: &Call) -> anyhow::Result<()> {
+    let party = call.party();
+    let mut text = call.text()?;
+    match stamp_and_check(seal, party, &text) {
         Ok(stamped) => {
             let tag = stamped.0;
-            let said = word(stamped.1);
-            let hex = Hex { bytes: &tag };
+            let (hex, said) = (Hex(&tag), word(stamped.1));
             text[CALL_TEXT_SIZE - 1] ^= 1;
-            let damaged = word(seal.check(party, text, &tag));
+            let damaged = word(seal.check(party, &text, &tag));
             println!(rt;
                 "party {party}: tag {hex}, check: {said}, with one bit of the text changed: {damaged}"
             )?;
@@ -179,15 +161,14 @@ pub(crate) fn show_shift(rt: &HostRuntime, calls: &[Call]) -> anyhow::Result<()>
     println!(rt; "")?;
     println!(rt; "The calls stamped, each with its tablet's card (demonstration keys)")?;
     for call in calls {
-        let party = call.party();
-        let mut card = Card::open(party, demonstration_keys()?);
-        show_stamp(rt, &mut card, party, &mut call.text()?)?;
+        let mut card = Card::open(call.party(), demonstration_keys()?);
+        show_stamp(rt, &mut card, call)?;
     }
     println!(rt; "")?;
     println!(rt; "The calls stamped with one register of {ROWS} rows")?;
-    let mut register = open_register(rt, ROWS)?;
+    let mut register = Register::open(rt.alloc(), ROWS)?;
     for call in calls {
-        show_stamp(rt, &mut register, call.party(), &mut call.text()?)?;
+        show_stamp(rt, &mut register, call)?;
     }
     Ok(())
 }

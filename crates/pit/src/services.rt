@@ -1,6 +1,6 @@
 //! The services by themselves: bodies from a file, and what a service holds as a small table.
 use hex::FromHex;
-use service::board::{Board, LAST_SPOT};
+use service::board::{Board, FIRST_SPOT, LAST_SPOT};
 use service::ledger::Ledger;
 use service::reply::told;
 use service::{BODY, Service};
@@ -34,34 +34,57 @@ fn perform_line<S: Service>(rt: &HostRuntime, service: &mut S, line: &[u8]) -> i
     println!(rt; "code {code} value {value}")
 }
 
-/// What the codes of the board mean.
-pub(crate) const BOARD_CODES: [&str; 5] = [
-    "done",
-    MALFORMED,
-    "there is no such truck",
-    "trucks are sent to spots 1 to 31",
-    "four other trucks are there already",
-];
+/// A service that can be shown in words.
+pub(crate) trait Shown: Service {
+    /// What its codes mean, from 0 on.
+    // Texts by number: a reply is bytes, which tell a code by its number, and each service has its own.
+    const CODES: &'static [&'static str];
 
-/// What the codes of the ledger mean.
-pub(crate) const LEDGER_CODES: [&str; 6] = [
-    "done",
-    MALFORMED,
-    "there is no such pile",
-    "there is no such pile to haul to",
-    "the pile holds less than that",
-    "the pile would pass 1,000,000,000",
-];
+    /// Prints what it holds as a small table.
+    fn show(&self, rt: &HostRuntime) -> io::Result<()>;
+}
 
-/// Prints who is where, a line for each spot in use.
-pub(crate) fn show_board(rt: &HostRuntime, board: &Board) -> io::Result<()> {
-    println!(rt; "spot  trucks")?;
-    for spot in 1..=LAST_SPOT {
-        if board.spots().iter().any(|&here| u16::from(here) == spot) {
-            show_spot(rt, board, spot)?;
+impl Shown for Board {
+    const CODES: &'static [&'static str] = &[
+        "done",
+        MALFORMED,
+        "there is no such truck",
+        "trucks are sent to spots 1 to 31",
+        "four other trucks are there already",
+    ];
+
+    /// Who is where, a line for each spot in use.
+    fn show(&self, rt: &HostRuntime) -> io::Result<()> {
+        println!(rt; "spot  trucks")?;
+        for spot in FIRST_SPOT..=LAST_SPOT {
+            if self.spots().iter().any(|&here| u16::from(here) == spot) {
+                show_spot(rt, self, spot)?;
+            }
         }
+        println!(rt; "every other truck is at the gate")
     }
-    println!(rt; "every other truck is at the gate")
+}
+
+impl Shown for Ledger {
+    const CODES: &'static [&'static str] = &[
+        "done",
+        MALFORMED,
+        "there is no such pile",
+        "there is no such pile to haul to",
+        "the pile holds less than that",
+        "the pile would pass 1,000,000,000",
+    ];
+
+    /// What lies on each pile that is not empty.
+    fn show(&self, rt: &HostRuntime) -> io::Result<()> {
+        println!(rt; "pile  weight")?;
+        for (pile, weight) in self.piles().iter().enumerate() {
+            if *weight != 0 {
+                println!(rt; "{pile:>4}  {weight}")?;
+            }
+        }
+        Ok(())
+    }
 }
 
 /// Prints the trucks of a spot.
@@ -73,15 +96,4 @@ fn show_spot(rt: &HostRuntime, board: &Board, spot: u16) -> io::Result<()> {
         }
     }
     println!(rt; "")
-}
-
-/// Prints what lies on each pile that is not empty.
-pub(crate) fn show_piles(rt: &HostRuntime, ledger: &Ledger) -> io::Result<()> {
-    println!(rt; "pile  weight")?;
-    for (pile, weight) in ledger.piles().iter().enumerate() {
-        if *weight != 0 {
-            println!(rt; "{pile:>4}  {weight}")?;
-        }
-    }
-    Ok(())
 }

@@ -1,22 +1,46 @@
 //! The embedded shift: calls by named foremen on a board and on a ledger, taken through every layer that there is.
+ghost use Rattle.std.specs.Prelude.{◌≤◌};
+
 use crate::bytes::Hex;
-use crate::{orders, seals, services, votes};
+use crate::services::Shown;
+use crate::{orders, seals, votes};
 use digest::sha256;
 use fault::Fault;
 use line::call;
 use line::pit::FIRST_CLIENT;
 use line::record::Record;
 use seal::TAG_SIZE;
-use service::board::Board;
-use service::ledger::Ledger;
+use service::board::{Board, Motion};
+use service::ledger::{Ledger, Work};
 use service::reply::told;
 use service::{BODY, PAGE, Service};
 use std::fmt;
 use step::{CALL_TEXT_SIZE, NO_HISTORY, link};
 
+/// A foreman, with a tablet of his own.
+#[derive(Clone, Copy, Debug)]
+enum Foreman {
+    Asta,
+    Bruno,
+    Cleo,
+}
+
+impl Foreman {
+    /// The number of his tablet.
+    fn tablet(self) -> u16
+        ensures { result ≤ 2 }
+    {
+        match self {
+            Foreman::Asta => 0,
+            Foreman::Bruno => 1,
+            Foreman::Cleo => 2,
+        }
+    }
+}
+
 /// What a foreman asks for.
 #[derive(Clone, Copy)]
-pub(crate) enum Deed {
+enum Deed {
     Send { truck: u16, spot: u16 },
     Recall { truck: u16 },
     Locate { truck: u16 },
@@ -28,61 +52,54 @@ pub(crate) enum Deed {
 /// A foreman's call, as his tablet numbers it.
 #[derive(Clone, Copy)]
 pub(crate) struct Call {
-    foreman: &'static str,
-    tablet: u16,
+    foreman: Foreman,
     stamp: u32,
     deed: Deed,
 }
 
+/// The shift's calls on the board.
 const BOARD_SHIFT: [Call; 7] = [
     Call {
-        foreman: "Asta",
-        tablet: 0,
+        foreman: Foreman::Asta,
         stamp: 1,
         deed: Deed::Send { truck: 11, spot: 5 },
     },
     Call {
-        foreman: "Bruno",
-        tablet: 1,
+        foreman: Foreman::Bruno,
         stamp: 1,
         deed: Deed::Send { truck: 12, spot: 5 },
     },
     Call {
-        foreman: "Asta",
-        tablet: 0,
+        foreman: Foreman::Asta,
         stamp: 2,
         deed: Deed::Send { truck: 13, spot: 5 },
     },
     Call {
-        foreman: "Cleo",
-        tablet: 2,
+        foreman: Foreman::Cleo,
         stamp: 1,
         deed: Deed::Send { truck: 14, spot: 5 },
     },
     Call {
-        foreman: "Bruno",
-        tablet: 1,
+        foreman: Foreman::Bruno,
         stamp: 2,
         deed: Deed::Send { truck: 15, spot: 5 },
     },
     Call {
-        foreman: "Cleo",
-        tablet: 2,
+        foreman: Foreman::Cleo,
         stamp: 2,
         deed: Deed::Recall { truck: 14 },
     },
     Call {
-        foreman: "Asta",
-        tablet: 0,
+        foreman: Foreman::Asta,
         stamp: 3,
         deed: Deed::Locate { truck: 13 },
     },
 ];
 
+/// The shift's calls on the ledger.
 const LEDGER_SHIFT: [Call; 5] = [
     Call {
-        foreman: "Asta",
-        tablet: 0,
+        foreman: Foreman::Asta,
         stamp: 1,
         deed: Deed::Dig {
             pile: 3,
@@ -90,8 +107,7 @@ const LEDGER_SHIFT: [Call; 5] = [
         },
     },
     Call {
-        foreman: "Bruno",
-        tablet: 1,
+        foreman: Foreman::Bruno,
         stamp: 1,
         deed: Deed::Haul {
             from: 3,
@@ -100,8 +116,7 @@ const LEDGER_SHIFT: [Call; 5] = [
         },
     },
     Call {
-        foreman: "Bruno",
-        tablet: 1,
+        foreman: Foreman::Bruno,
         stamp: 2,
         deed: Deed::Haul {
             from: 3,
@@ -110,8 +125,7 @@ const LEDGER_SHIFT: [Call; 5] = [
         },
     },
     Call {
-        foreman: "Cleo",
-        tablet: 2,
+        foreman: Foreman::Cleo,
         stamp: 1,
         deed: Deed::Dig {
             pile: 7,
@@ -119,13 +133,13 @@ const LEDGER_SHIFT: [Call; 5] = [
         },
     },
     Call {
-        foreman: "Asta",
-        tablet: 0,
+        foreman: Foreman::Asta,
         stamp: 2,
         deed: Deed::Weigh { pile: 7 },
     },
 ];
 
+// By hand, as for `Call`: the derive at hand is for errors.
 impl fmt::Display for Deed {
     fn fmt<W: fmt::Write>(&self, f: &mut fmt::Formatter<W>) -> fmt::Result {
         match *self {
@@ -144,22 +158,21 @@ impl fmt::Display for Deed {
 
 impl fmt::Display for Call {
     fn fmt<W: fmt::Write>(&self, f: &mut fmt::Formatter<W>) -> fmt::Result {
-        let foreman = self.foreman;
-        let deed = self.deed;
-        write!(f, "{foreman} {deed}")
+        write!(f, "{:?} {}", self.foreman, self.deed)
     }
 }
 
 impl Deed {
     /// The body: operation, a, b and w, and a tail of zeros.
+    // By hand: no service writes bodies, they come from tablets.
     fn body(self) -> [u8; BODY] {
         let (operation, a, b, w) = match self {
-            Deed::Send { truck, spot } => (1u16, truck, spot, 0),
-            Deed::Recall { truck } => (2, truck, 0, 0),
-            Deed::Locate { truck } => (3, truck, 0, 0),
-            Deed::Dig { pile, weight } => (1, pile, 0, weight),
-            Deed::Haul { from, to, weight } => (2, from, to, weight),
-            Deed::Weigh { pile } => (3, pile, 0, 0),
+            Deed::Send { truck, spot } => (u16::from(Motion::Send), truck, spot, 0),
+            Deed::Recall { truck } => (u16::from(Motion::Recall), truck, 0, 0),
+            Deed::Locate { truck } => (u16::from(Motion::Tell), truck, 0, 0),
+            Deed::Dig { pile, weight } => (u16::from(Work::Dig), pile, 0, weight),
+            Deed::Haul { from, to, weight } => (u16::from(Work::Haul), from, to, weight),
+            Deed::Weigh { pile } => (u16::from(Work::Tell), pile, 0, 0),
         };
         let [o0, o1] = u16::to_le_bytes(operation);
         let [a0, a1] = u16::to_le_bytes(a);
@@ -173,15 +186,14 @@ impl Call {
     /// The first call of the shift, under a stamp.
     pub(crate) fn first(stamp: u32) -> Call {
         Call {
-            foreman: "Asta",
-            tablet: 0,
             stamp,
-            deed: Deed::Send { truck: 11, spot: 5 },
+            ..BOARD_SHIFT[0]
         }
     }
 
+    /// The number of the tablet among the parties.
     pub(crate) fn party(self) -> u16 {
-        FIRST_CLIENT.saturating_add(self.tablet)
+        FIRST_CLIENT + self.foreman.tablet()
     }
 
     /// The bytes that are stamped and linked.
@@ -198,6 +210,7 @@ impl Call {
         Ok(line)
     }
 
+    /// The line, around a body and a tag that are lent.
     fn line<'a>(self, body: &'a [u8], tag: &'a [u8]) -> call::Call<'a> {
         call::Call {
             sender: self.party(),
@@ -217,16 +230,10 @@ pub(crate) fn show(rt: &HostRuntime) -> anyhow::Result<()> {
     show_histories(rt, &BOARD_SHIFT)?;
     println!(rt; "")?;
     println!(rt; "The calls on a board")?;
-    let mut board = Board::open();
-    perform(rt, &mut board, &BOARD_SHIFT, &services::BOARD_CODES)?;
-    services::show_board(rt, &board)?;
-    show_print(rt, &board)?;
+    perform(rt, &mut Board::open(), &BOARD_SHIFT)?;
     println!(rt; "")?;
     println!(rt; "Other calls on a ledger")?;
-    let mut ledger = Ledger::open();
-    perform(rt, &mut ledger, &LEDGER_SHIFT, &services::LEDGER_CODES)?;
-    services::show_piles(rt, &ledger)?;
-    show_print(rt, &ledger)?;
+    perform(rt, &mut Ledger::open(), &LEDGER_SHIFT)?;
     seals::show_shift(rt, &BOARD_SHIFT)?;
     orders::show_shift(rt, &BOARD_SHIFT)?;
     votes::show(rt)?;
@@ -245,39 +252,42 @@ fn state_theorems() {
     seal::promises::only_stamps_are_new();
     seal::promises::stamps_for_its_parties();
     seal::promises::register_accepts_the_stamped();
+    line_laws::kind_laws_hold::<line::call::Call>();
+    line_laws::kind_laws_hold::<line::order::Order>();
+    line_laws::kind_laws_hold::<line::answer::Answer>();
+    line_laws::kind_laws_hold::<line::cert::Cert>();
+    line_laws::kind_laws_hold::<line::committed::Committed>();
+    line_laws::kind_laws_hold::<line::sheet::Sheet>();
+    line_laws::kind_laws_hold::<line::charge::Charge>();
     line_laws::laws_hold();
     line_laws::set_ups_hold();
+    step::calls_are_steps::<lead::Lead>();
     lead::laws::laws_hold();
     lead::laws::runs_are_takes();
 }
 
+/// Prints each call with its place, and the history that ends in it.
 fn show_histories(rt: &HostRuntime, calls: &[Call]) -> anyhow::Result<()> {
     let mut history = NO_HISTORY;
-    for (i, call) in calls.iter().enumerate() {
+    for (place, call) in (1u32..).zip(calls) {
         history = link(&history, &call.text()?);
-        let place = i.saturating_add(1);
-        let shown = Hex { bytes: &history };
-        println!(rt; "place {place}: {call}, history {shown}")?;
+        println!(rt; "place {place}: {call}, history {}", Hex(&history))?;
     }
     Ok(())
 }
 
-/// Performs calls, and prints what became of each, with what its code means.
-fn perform<S: Service>(
-    rt: &HostRuntime,
-    service: &mut S,
-    calls: &[Call],
-    meanings: &[&str],
-) -> anyhow::Result<()> {
+/// Performs calls, prints what became of each, with what its code means, and then what the service holds.
+fn perform<S: Shown>(rt: &HostRuntime, service: &mut S, calls: &[Call]) -> anyhow::Result<()> {
     for call in calls {
-        let (code, value) = told(&service.perform(call.tablet, &call.deed.body()));
-        let meaning = meanings
+        let (code, value) = told(&service.perform(call.foreman.tablet(), &call.deed.body()));
+        let meaning = S::CODES
             .get(usize::from(code))
             .copied()
             .unwrap_or("no such code");
         println!(rt; "{call}: code {code} value {value} ({meaning})")?;
     }
-    Ok(())
+    service.show(rt)?;
+    show_print(rt, service)
 }
 
 /// Prints the SHA-256 of a service's page.
@@ -285,7 +295,5 @@ fn show_print<S: Service>(rt: &HostRuntime, service: &S) -> anyhow::Result<()> {
     let mut buffer = [0; PAGE];
     let size = service.page(&mut buffer);
     let print = sha256(&buffer[0..size])?;
-    let print = Hex { bytes: &print };
-    println!(rt; "print of the page: {print}")?;
-    Ok(())
+    Ok(println!(rt; "print of the page: {}", Hex(&print))?)
 }

@@ -1,7 +1,8 @@
 //! The worked examples of FIPS 180-4 and RFC 4231, computed and compared.
 use crate::bytes::Hex;
+use crate::digests::tag_of;
 use anyhow::anyhow;
-use digest::{hmac_sha256, sha256};
+use digest::sha256;
 use std::alloc::{AllocError, Global};
 
 /// The bytes of a key or a text.
@@ -22,6 +23,7 @@ struct Vector {
     expected: &'static str,
 }
 
+/// The examples, those of FIPS 180-4 and the like first.
 const VECTORS: [Vector; 12] = [
     Vector {
         name: "FIPS 180-4, one block",
@@ -102,45 +104,34 @@ const VECTORS: [Vector; 12] = [
 ];
 
 impl Input {
+    /// The bytes themselves.
     fn bytes(self, heap: Global) -> Result<Vec<u8>, AllocError> {
         match self {
             Input::Text(text) => Vec::from_slice(heap, text.as_bytes()),
             Input::Repeated(byte, count) => vec![in heap; byte; count],
-            Input::Rising(last) => rising(heap, last),
+            Input::Rising(last) => (1..=last).collect(heap),
         }
     }
 }
 
-fn rising(heap: Global, last: u8) -> Result<Vec<u8>, AllocError> {
-    let mut bytes = Vec::new(heap);
-    for byte in 1..=last {
-        bytes.push(byte)?;
-    }
-    Ok(bytes)
-}
-
 impl Vector {
+    /// The digest, or the tag.
     fn compute(&self, heap: Global) -> anyhow::Result<[u8; 32]> {
         let text = self.text.bytes(heap)?;
         match self.key {
             None => Ok(sha256(text.as_slice())?),
-            Some(key) => {
-                let key = key.bytes(heap)?;
-                let mut work = [0; 64];
-                Ok(hmac_sha256(key.as_slice(), text.as_slice(), &mut work)?)
-            }
+            Some(key) => Ok(tag_of(key.bytes(heap)?.as_slice(), text.as_slice())?),
         }
     }
 }
 
 /// Prints each example with its expected and its computed value, and a closing count.
 pub(crate) fn show(rt: &HostRuntime) -> anyhow::Result<()> {
-    let mut agreeing = 0usize;
-    for vector in &VECTORS {
-        if show_one(rt, vector)? {
-            agreeing = agreeing.saturating_add(1);
-        }
-    }
+    let verdicts: Vec<bool> = VECTORS
+        .iter()
+        .map(|vector| show_one(rt, vector))
+        .try_collect(rt.alloc())?;
+    let agreeing = verdicts.iter().filter(|agrees| **agrees).count();
     let all = VECTORS.len();
     println!(rt; "{agreeing} of {all} vectors agree")?;
     if agreeing != all {
@@ -149,12 +140,12 @@ pub(crate) fn show(rt: &HostRuntime) -> anyhow::Result<()> {
     Ok(())
 }
 
+/// Prints an example with its two values; answers whether they agree.
 fn show_one(rt: &HostRuntime, vector: &Vector) -> anyhow::Result<bool> {
     let name = vector.name;
     let expected = vector.expected;
     let value = vector.compute(rt.alloc())?;
-    let hex = Hex { bytes: &value };
-    let computed = format!(in rt.alloc(); "{hex}")?;
+    let computed = format!(in rt.alloc(); "{}", Hex(&value))?;
     let same = computed.starts_with(expected);
     let verdict = if same { "agrees" } else { "DIFFERS" };
     println!(rt; "{name}: {verdict}")?;

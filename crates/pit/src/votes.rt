@@ -1,9 +1,12 @@
 //! A small count in words: the ANSWERs of a pit of four boxes, as a tablet counts them.
 use line::answer::Answer;
+use service::reply::Code;
+use service::{REPLY, reply};
 use std::fmt;
 use vote::answer::AnswerVote;
 use vote::tally::{Tally, each_in_its_row, one_quorum};
 
+/// How many boxes the pit has.
 const BOXES: usize = 4;
 
 /// What any two groups of this size share, with one lying box among four, is a box that keeps the rules.
@@ -17,15 +20,16 @@ enum Word {
 }
 
 impl Word {
-    /// The eight bytes of the reply: code and value.
-    fn reply(self) -> [u8; 8] {
-        match self {
-            Word::Sent => [0, 0, 1, 0, 0, 0, 0, 0],
-            Word::Full => [4, 0, 0, 0, 0, 0, 0, 0],
-        }
+    /// The board's reply that says so.
+    fn reply(self) -> [u8; REPLY] {
+        reply::bytes(match self {
+            Word::Sent => Ok(1),
+            Word::Full => Err(Code::SpotFull),
+        })
     }
 }
 
+// By hand: the derive at hand is for errors.
 impl fmt::Display for Word {
     fn fmt<W: fmt::Write>(&self, f: &mut fmt::Formatter<W>) -> fmt::Result {
         match self {
@@ -62,16 +66,16 @@ fn vote_of(sender: u16, word: Word) -> anyhow::Result<AnswerVote> {
         reply: &reply,
         tag: &tag,
     };
-    Ok(AnswerVote::of(&line)?)
+    Ok(AnswerVote::try_from(&line)?)
 }
 
 /// Says what each box answered, how many agree, and whether that is enough for a certificate.
 fn count(rt: &HostRuntime, words: [Word; BOXES]) -> anyhow::Result<()> {
     let mut rows = [None; BOXES];
     let mut tally = Tally::over(&mut rows);
-    for (i, word) in words.iter().enumerate() {
-        println!(rt; "  box {i} says: {word}")?;
-        tally.add(vote_of(i as u16, *word)?)?;
+    for (sender, word) in (0..).zip(words) {
+        println!(rt; "  box {sender} says: {word}")?;
+        tally.add(vote_of(sender, word)?)?;
     }
     if let Err(fault) = tally.add(vote_of(0, Word::Sent)?) {
         println!(rt; "  box 0 once more: {fault}")?;

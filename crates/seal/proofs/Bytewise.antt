@@ -1,5 +1,6 @@
 -- Two lists of bytes compared without leaving early: the differences of all bytes are gathered in one number.
-use Rattle.std.proofs.Common.{◌≡◌, ℕ, ◌+◌, ◌<◌, eqb, List, length, get_or, take, sym, refl, ap, ◌∙◌, arith}
+use Rattle.std.proofs.lemmas.Grind.{common_steps}
+use Rattle.std.proofs.Common.{◌≡◌, ℕ, ◌+◌, ◌<◌, eqb, List, length, get_or, take, sym, ap, ◌∙◌, arith}
 use lib.Bits.{bit_or, bit_xor, or_add_and, xor_add_and, and_le_l, and_le_r, xor_self}
 use Rattle.std.proofs.lemmas.Slice.Eq.{bytes_eq-Decides}
 use Rattle.std.proofs.lemmas.List.{same_from_push, take_all, take_more, take_more_same}
@@ -10,9 +11,6 @@ use Rattle.std.specs.Str.{bytes_eq}
 pub record Gathered (difference i : ℕ) (xs ys : List ℕ) : Type 0 where
   pub none : difference ≡ 0 → take i xs ≡ take i ys
   pub some : take i xs ≡ take i ys → difference ≡ 0
-
-pub gathered_none : (xs ys : List ℕ) → Gathered 0 0 xs ys
-gathered_none xs ys = record { none = λ e. refl; some = λ e. refl }
 
 or_zero : (a b : ℕ) → bit_or a b ≡ 0 → (a ≡ 0) × (b ≡ 0)
 or_zero a b e = (omega (arith, or_add_and a b, and_le_r a b), omega (arith, or_add_and a b, and_le_l a b))
@@ -42,9 +40,4 @@ pub gathered_all :
     → length ys ≡ n
     → Gathered difference n xs ys
     → eqb difference 0 ≡ bytes_eq xs ys
-gathered_all difference n xs ys h k g =
-    let all = take_all n xs (omega arith) in
-    let every = take_all n ys (omega arith) in
-    same_from_decides (eqb difference 0) (bytes_eq xs ys)
-    (Decides-like (eqb difference 0) (λ e. sym all ∙ g.none e ∙ every) (λ e. g.some (all ∙ e ∙ sym every)) (Decides-eqb difference 0))
-    (bytes_eq-Decides xs ys)
+gathered_all difference n xs ys h k g = grind (arith, common_steps, take_all, same_from_decides, Decides-like, Decides-eqb, bytes_eq-Decides)

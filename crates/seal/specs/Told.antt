@@ -1,12 +1,12 @@
 -- What a register accepts: by the row whose number a tag has, and after one row more.
-use Rattle.std.specs.Prelude.{◌≡◌, ℕ, zero, suc, ◌+◌, ◌-◌, ◌*◌, ◌/◌, ◌%◌, ◌^◌, ◌<◌, ◌≤◌, min, Bool, true, false, ◌&&◌, ◌||◌, List, [], ◌∷◌, ◌++◌, length, get_or, take, drop, replicate, ◌≢◌, nat_le, slice_index, slice_index_or, refl}
+use Rattle.std.proofs.lemmas.Grind.{common_steps}
+use Rattle.std.specs.Prelude.{◌≡◌, ℕ, zero, suc, ◌+◌, ◌-◌, ◌*◌, ◌/◌, ◌%◌, ◌^◌, ◌<◌, ◌≤◌, min, Bool, true, false, ◌||◌, List, [], ◌∷◌, ◌++◌, length, get_or, take, replicate, ◌≢◌, nat_le, slice_index, slice_index_or, refl}
 use Rattle.std.proofs.Common.{lit<, ⊎_elim, sym, ap, ◌∙◌, add-zero, mod-eq_of_lt, zero-add, arith}
 use Rattle.std.proofs.Math.Nat.{div-div-eq-div-mul}
 use Rattle.std.proofs.lemmas.Nat.{div-add-mod', div_below}
 use Rattle.std.proofs.lemmas.Slice.Eq.{bytes_eq-Decides}
 use Rattle.std.proofs.lemmas.List.{get_or-map, length-map, length_push, length-take, map_push, take_at}
 use Rattle.std.proofs.lemmas.Bool.{and_parts, false≢true, leb-true, ltb-true, or_cases, or_from}
-use Rattle.std.specs.Str.{bytes_eq}
 use Rattle.seal.specs.Meaning.{Discerning, limited, longest_text, may_stamp, ready_for, same_triple, stamped, tag_size}
 use Rattle.seal.specs.Parties.{known_party}
 use Rattle.seal.specs.Rows.{Entry, entries_of, register_meaning, row_bytes, row_entry, row_tag, told_from}
@@ -145,12 +145,7 @@ row_sized :
     (row : List ℕ) (n p : ℕ) (x t : List ℕ)
     → same_triple p x t (row_entry row).party (row_entry row).text (row_tag n) ≡ true
     → (length x ≤ longest_text) × (length t ≡ tag_size)
-row_sized row n p x t h =
-    let both = (and_parts _ (bytes_eq x (row_entry row).text && bytes_eq t (row_tag n)) h).1 in
-    let parts = and_parts (bytes_eq x (row_entry row).text) (bytes_eq t (row_tag n)) both in
-    let text : length x ≡ min (min (slice_index row 2 + slice_index row 3 * 256) longest_text) (length (drop 4 row)) =
-    ap length ((bytes_eq-Decides x (row_entry row).text).0 parts.0) ∙ length-take _ (drop 4 row) in
-    (omega arith, ap length ((bytes_eq-Decides t (row_tag n)).0 parts.1))
+row_sized row n p x t h = grind (arith, common_steps, and_parts, bytes_eq-Decides, length-take)
 
 told_sized :
     (rows : List (List ℕ)) (at p : ℕ) (x t : List ℕ)

@@ -16,6 +16,7 @@ pub const KEY_SIZE: usize = 32;
 /// How many bytes of memory HMAC works in.
 const WORK_SIZE: usize = 64;
 
+/// A party's key.
 pub type Key = [u8; KEY_SIZE];
 
 /// The keys of all parties, by their places, and whose card it is.
@@ -34,24 +35,22 @@ fn keyed_tag(key: &Key, text: &[u8], work: &mut [u8; WORK_SIZE]) -> Option<[u8; 
     hmac_sha256(key, text, work).ok()
 }
 
-/// 0 if the two are the same. All bytes are compared, so that the time tells nothing of where they part.
-#[tactic(auto, using(crate::proofs::Bytewise::gathered_more, crate::proofs::Bytewise::gathered_all))]
-fn difference(a: &[u8], b: &[u8]) -> u8
-    requires { length a.now ≡ length b.now }
-    ensures { (result == 0) ≡ bytes_eq a.now b.now }
+/// Are the two the same? All bytes are always compared, so that the time tells nothing of where they part.
+fn same_tag(a: &[u8; TAG_SIZE], b: &[u8; TAG_SIZE]) -> bool
+    ensures { result ≡ bytes_eq a.now b.now }
 {
-    let mut gathered = 0;
-    for i in 0..a.len() {
-        gathered |= a[i] ^ b[i];
+    let mut difference = 0;
+    for (x, y) in a.iter().zip(b) {
+        difference |= *x ^ *y;
     }
-    gathered
+    difference == 0
 }
 
 /// Is it this tag?
 fn is_tag(right: &[u8; TAG_SIZE], tag: &[u8]) -> bool
     ensures { result ≡ is_tag right.now tag.now }
 {
-    tag.len() == TAG_SIZE && difference(tag, right) == 0
+    <&[u8; TAG_SIZE]>::try_from(tag).is_ok_and(|tag| same_tag(tag, right))
 }
 
 impl Card {
@@ -85,13 +84,14 @@ impl Seal for Card {
         if !self.ready(party) {
             return Err(Fault::of(Reason::SealNotReady));
         }
-        match self.tag_of(party, text) {
-            Some(tag) => Ok(tag),
-            None => Err(Fault::of(Reason::SealNotReady)),
-        }
+        let tag = self
+            .tag_of(party, text)
+            .ok_or(Fault::of(Reason::SealNotReady))?;
+        Ok(tag)
     }
 
     fn check(&self, party: u16, text: &[u8], tag: &[u8]) -> bool {
+        // Not by `is_some_and`: its contract leaves `returns` open here.
         match self.tag_of(party, text) {
             Some(right) => is_tag(&right, tag),
             None => false,

@@ -8,15 +8,17 @@ pub const BOXES: u16 = 10;
 /// The party number of tablet 0.
 pub const FIRST_TABLET: u16 = 256;
 
+/// How many tablets a pit can have.
 pub const TABLETS: u16 = 16;
 
 /// How many parties there are in all.
 pub const PARTIES: usize = 26;
 
+/// Is it one of the 16 tablets?
 fn is_tablet(party: u16) -> bool
     ensures { result ≡ is_tablet party }
 {
-    FIRST_TABLET <= party && party < FIRST_TABLET + TABLETS
+    (FIRST_TABLET..FIRST_TABLET + TABLETS).contains(&party)
 }
 
 /// Is it one of the 26 parties?
@@ -32,7 +34,7 @@ pub fn place(party: u16) -> Option<usize>
     ensures below { IfSome result (λ at. at < boxes + tablets) }
 {
     if party < BOXES {
-        return Some(party as usize);
+        return Some(usize::from(party));
     }
     if is_tablet(party) {
         return Some((BOXES + (party - FIRST_TABLET)) as usize);

@@ -1,5 +1,5 @@
 -- What a service is to the machines above it.
-use Rattle.std.specs.Prelude.{◌≡◌, ℕ, ◌+◌, ◌≤◌, List, ◌++◌, length, take, drop}
+use Rattle.std.specs.Prelude.{◌≡◌, ℕ, ◌≤◌, List, ◌++◌, length, drop}
 
 -- the page that it holds now, the page that it starts with, and the rule that turns a page, a tablet's number and a body into the next page and a reply
 pub record Meaning : Type 0 where
@@ -14,10 +14,6 @@ performed m tablet body = record { page = (m.rule m.page tablet body).0; start =
 -- what a tablet's body is answered
 abbrev pub answered : Meaning → ℕ → List ℕ → List ℕ
 answered m tablet body = (m.rule m.page tablet body).1
-
--- a buffer with bytes written over it from a place on
-abbrev pub over_at : ℕ → List ℕ → List ℕ → List ℕ
-over_at place bytes buffer = take place buffer ++ (bytes ++ drop (place + length bytes) buffer)
 
 -- a buffer with the page written over its front
 abbrev pub over_front : List ℕ → List ℕ → List ℕ

@@ -6,7 +6,7 @@ use Rattle.std.proofs.Common.{mod-eq_of_lt, arith, ap, sym, ◌∙◌}
 use Rattle.std.proofs.lemmas.List.{append_assoc, drop_at, drop-drop, flat_map_more, take_all, take_at, take_more, length-take-le}
 use Rattle.service.specs.Bodies.{fields_of}
 use Rattle.service.specs.Ledgers.{Within, ledger, ledger_rule, page_of, piles_of}
-use Rattle.service.specs.Meaning.{answered, over_at, over_front, performed}
+use Rattle.service.specs.Meaning.{answered, over_front, performed}
 use Rattle.service.specs.Numbers.{four, four_bytes}
 use Rattle.service.specs.Replies.{Reply, reply_bytes}
 use Rattle.service.specs.declared.body.Fields.{Fields}
@@ -29,6 +29,10 @@ piles_again (p ∷ piles) within =
     let first = four_again p (within 0) in
     let others = piles_again piles (λ k. within (suc k)) in
     cc
+
+-- a buffer with bytes written over it from a place on
+abbrev over_at : ℕ → List ℕ → List ℕ → List ℕ
+over_at place bytes buffer = take place buffer ++ (bytes ++ drop (place + length bytes) buffer)
 
 -- one pile more is written behind those that were written
 pub write_more : (piles buffer : List ℕ) (k : ℕ) → k < length piles → over_at (4 * k) (four_bytes (slice_index piles k)) (page_of (take k piles) ++ drop (4 * k) buffer) ≡ page_of (take (k + 1) piles) ++ drop (4 * (k + 1)) buffer

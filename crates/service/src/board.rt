@@ -1,5 +1,5 @@
 //! The board: where each truck stands.
-ghost use Rattle.std.specs.Prelude.{◌≡◌, ◌<◌, slice_set};
+ghost use Rattle.std.specs.Prelude.{◌≡◌};
 ghost use Rattle.service.specs.Boards.{board, board_do, board_operation, board_rule, board_uses, motion_number, start_spots, trucks_at};
 ghost use Rattle.service.specs.declared.reply.Code.TheVariants.{Malformed};
 ghost use Rattle.std.specs.Option.{ok_or};
@@ -10,6 +10,7 @@ ghost use Rattle.service.specs.Bodies.{fields_of};
 ghost use Rattle.service.specs.Replies.{length_reply};
 
 use crate::body::{Fields, Uses};
+use crate::one_of::OneOf;
 use crate::reply::{Code, Reply, bytes};
 use crate::{BODY, PAGE, REPLY, Service};
 
@@ -28,26 +29,18 @@ pub const LAST_SPOT: u16 = 31;
 /// How many trucks a spot holds; the gate has room for all.
 pub const SPOT_ROOM: usize = 4;
 
+/// A truck, by its number.
+type Truck = OneOf<TRUCKS>;
+
 /// What a tablet can ask of the board.
-#[derive(Clone, Copy)]
+#[derive(Clone, Copy, PartialEq, Eq, Debug)]
 pub enum Motion {
-    Send,
-    Recall,
-    Tell,
+    Send = 1,
+    Recall = 2,
+    Tell = 3,
 }
 
 impl Motion {
-    /// The number by which a body names it.
-    pub fn number(self) -> u16
-        ensures { result ≡ motion_number self }
-    {
-        match self {
-            Motion::Send => 1,
-            Motion::Recall => 2,
-            Motion::Tell => 3,
-        }
-    }
-
     /// Which fields it uses.
     pub fn uses(self) -> Uses
         ensures { result ≡ board_uses self }
@@ -56,6 +49,15 @@ impl Motion {
             Motion::Send => Uses::AAndB,
             Motion::Recall | Motion::Tell => Uses::OnlyA,
         }
+    }
+}
+
+/// The number by which a body names it.
+impl From<Motion> for u16 {
+    ghost from_gives = { λ motion number. number ≡ motion_number motion };
+
+    fn from(motion: Motion) -> u16 {
+        motion as u16
     }
 }
 
@@ -107,51 +109,38 @@ impl Board {
         if !fields.proper(motion.uses()) {
             return Err(Code::Malformed);
         }
-        let truck = usize::from(fields.a);
-        if truck >= TRUCKS {
-            return Err(Code::NoTruck);
-        }
+        let truck = Truck::of(fields.a).ok_or(Code::NoTruck)?;
         match motion {
             Motion::Send => self.send(truck, fields.b),
             Motion::Recall => self.recall(truck),
-            Motion::Tell => Ok(u32::from(self.spots[truck])),
+            Motion::Tell => Ok(u32::from(self.spots[truck.index()])),
         }
     }
 
     /// Sends a truck to a spot.
-    fn send(&mut self, truck: usize, spot: u16) -> Reply
-        requires { truck < 64 }
+    fn send(&mut self, truck: Truck, spot: u16) -> Reply
         ensures { (self.new.spots, result) ≡ board_do Send truck spot self.old.spots }
     {
-        if spot < FIRST_SPOT || spot > LAST_SPOT {
+        if !(FIRST_SPOT..=LAST_SPOT).contains(&spot) {
             return Err(Code::NoSpot);
         }
         let spot = spot as u8;
-        if trucks_at(&moved(&self.spots, truck, GATE), spot) >= SPOT_ROOM {
+        let mut others = self.spots;
+        others[truck.index()] = GATE;
+        if trucks_at(&others, spot) >= SPOT_ROOM {
             return Err(Code::SpotFull);
         }
-        self.spots[truck] = spot;
+        self.spots[truck.index()] = spot;
         Ok(trucks_at(&self.spots, spot) as u32)
     }
 
     /// Calls a truck back to the gate.
-    fn recall(&mut self, truck: usize) -> Reply
-        requires { truck < 64 }
+    fn recall(&mut self, truck: Truck) -> Reply
         ensures { (self.new.spots, result) ≡ board_do Recall truck 0 self.old.spots }
     {
-        self.spots[truck] = GATE;
+        self.spots[truck.index()] = GATE;
         Ok(0)
     }
-}
-
-/// The spots once a truck stands elsewhere.
-fn moved(spots: &[u8; TRUCKS], truck: usize, spot: u8) -> [u8; TRUCKS]
-    requires { truck < 64 }
-    ensures { result ≡ slice_set spots.now truck spot }
-{
-    let mut after = *spots;
-    after[truck] = spot;
-    after
 }
 
 /// How many trucks stand at a spot.
@@ -172,7 +161,7 @@ impl Service for Board {
         } };
 
     fn perform(&mut self, _tablet: u16, body: &[u8; BODY]) -> [u8; REPLY] {
-        bytes(self.apply(Fields::read(body)))
+        bytes(self.apply(Fields::from(body)))
     }
 
     fn page(&self, buffer: &mut [u8; PAGE]) -> usize {

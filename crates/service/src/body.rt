@@ -5,7 +5,7 @@ ghost use Rattle.std.specs.Prelude.{◌≡◌};
 use crate::BODY;
 
 /// A body taken apart.
-#[derive(Clone, Copy)]
+#[derive(Clone, Copy, PartialEq, Eq, Debug)]
 pub struct Fields {
     pub operation: u16,
     pub a: u16,
@@ -16,7 +16,7 @@ pub struct Fields {
 }
 
 /// Which fields an operation uses. The others, and the tail, have to be zero.
-#[derive(Clone, Copy)]
+#[derive(Clone, Copy, PartialEq, Eq, Debug)]
 pub enum Uses {
     OnlyA,
     AAndB,
@@ -24,11 +24,11 @@ pub enum Uses {
     All,
 }
 
-impl Fields {
-    /// The fields that a body's bytes hold.
-    pub fn read(body: &[u8; BODY]) -> Fields
-        ensures { result ≡ fields_of body.now }
-    {
+/// The fields that a body's bytes hold.
+impl From<&[u8; BODY]> for Fields {
+    ghost from_gives = { λ body fields. fields ≡ fields_of body.now };
+
+    fn from(body: &[u8; BODY]) -> Fields {
         Fields {
             operation: u16::from_le_bytes([body[0], body[1]]),
             a: u16::from_le_bytes([body[2], body[3]]),
@@ -37,7 +37,9 @@ impl Fields {
             padded: zeros(&body[10..16]),
         }
     }
+}
 
+impl Fields {
     /// Whether every field that is not used, and the tail, is zero.
     pub fn proper(&self, uses: Uses) -> bool
         ensures { result ≡ unused_zero uses self.now }
@@ -52,6 +54,7 @@ impl Fields {
 }
 
 /// Whether every byte is zero.
+// A function of its own: with the chain written where it is used, what `from` answers stays open.
 fn zeros(bytes: &[u8]) -> bool
     ensures { result ≡ all_zero bytes.now }
 {

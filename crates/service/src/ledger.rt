@@ -1,7 +1,7 @@
 //! The ledger: how much lies on each pile.
-ghost use Rattle.std.specs.Prelude.{◌≡◌, ◌+◌, ◌<◌, ◌≤◌, length, if◌then◌else◌, Ok, Err};
+ghost use Rattle.std.specs.Prelude.{◌≡◌, ◌+◌, ◌≤◌, length, if◌then◌else◌, nat_lt, Ok, Err, Some, None};
 ghost use Rattle.service.specs.Ledgers.{Within, ledger, ledger_do, ledger_operation, ledger_rule, ledger_uses, lowered, page_of, passes, pile, raised, start_piles, work_number, piles_of};
-ghost use Rattle.service.specs.Meaning.{over_at, over_front};
+ghost use Rattle.service.specs.Meaning.{over_front};
 ghost use Rattle.service.specs.declared.reply.Code.TheVariants.{Malformed, TooMuch};
 ghost use Rattle.std.specs.Option.{ok_or};
 ghost use Rattle.service.specs.declared.ledger.Work.TheVariants.{Dig, Haul};
@@ -12,6 +12,7 @@ ghost use Rattle.service.specs.Bodies.{fields_of};
 ghost use Rattle.service.specs.Replies.{length_reply};
 
 use crate::body::{Fields, Uses};
+use crate::one_of::OneOf;
 use crate::reply::{Code, Reply, bytes};
 use crate::{BODY, PAGE, REPLY, Service};
 
@@ -19,31 +20,23 @@ use crate::{BODY, PAGE, REPLY, Service};
 pub const PILES: usize = 16;
 
 /// How many bytes of the page a pile has.
-const PILE: usize = 4;
+const PILE_SIZE: usize = 4;
 
 /// The weight that no pile may pass.
 pub const LIMIT: u64 = 1_000_000_000;
 
+/// A pile, by its number.
+type Pile = OneOf<PILES>;
+
 /// What a tablet can ask of the ledger.
-#[derive(Clone, Copy)]
+#[derive(Clone, Copy, PartialEq, Eq, Debug)]
 pub enum Work {
-    Dig,
-    Haul,
-    Tell,
+    Dig = 1,
+    Haul = 2,
+    Tell = 3,
 }
 
 impl Work {
-    /// The number by which a body names it.
-    pub fn number(self) -> u16
-        ensures { result ≡ work_number self }
-    {
-        match self {
-            Work::Dig => 1,
-            Work::Haul => 2,
-            Work::Tell => 3,
-        }
-    }
-
     /// Which fields it uses.
     pub fn uses(self) -> Uses
         ensures { result ≡ ledger_uses self }
@@ -53,6 +46,15 @@ impl Work {
             Work::Haul => Uses::All,
             Work::Tell => Uses::OnlyA,
         }
+    }
+}
+
+/// The number by which a body names it.
+impl From<Work> for u16 {
+    ghost from_gives = { λ work number. number ≡ work_number work };
+
+    fn from(work: Work) -> u16 {
+        work as u16
     }
 }
 
@@ -103,64 +105,52 @@ impl Ledger {
         if !fields.proper(work.uses()) {
             return Err(Code::Malformed);
         }
-        let a = usize::from(fields.a);
-        let b = usize::from(fields.b);
-        if a >= PILES {
-            return Err(Code::NoPile);
-        }
+        let pile = Pile::of(fields.a).ok_or(Code::NoPile)?;
         match work {
-            Work::Dig => self.dig(a, fields.w),
-            Work::Haul => self.haul(a, b, fields.w),
-            Work::Tell => Ok(self.piles[a]),
+            Work::Dig => self.dig(pile, fields.w),
+            Work::Haul => self.haul(pile, fields.b, fields.w),
+            Work::Tell => Ok(self.piles[pile.index()]),
         }
     }
 
     /// Digs a weight into a pile.
-    fn dig(&mut self, a: usize, w: u32) -> Reply
-        requires { a < 16 }
-        ensures { (self.new.piles, result) ≡ ledger_do Dig a 0 w self.old.piles }
+    fn dig(&mut self, to: Pile, w: u32) -> Reply
+        ensures { (self.new.piles, result) ≡ ledger_do Dig to 0 w self.old.piles }
     {
-        self.piles = raise(&self.piles, a, w)?;
-        Ok(self.piles[a])
+        self.piles = raise(&self.piles, to, w)?;
+        Ok(self.piles[to.index()])
     }
 
-    /// Hauls a weight from pile a to pile b, which may be the same.
-    fn haul(&mut self, a: usize, b: usize, w: u32) -> Reply
-        requires { a < 16 }
-        ensures { (self.new.piles, result) ≡ ledger_do Haul a b w self.old.piles }
+    /// Hauls a weight from a pile to the pile of number b, which may be the same.
+    fn haul(&mut self, from: Pile, b: u16, w: u32) -> Reply
+        ensures { (self.new.piles, result) ≡ ledger_do Haul from b w self.old.piles }
     {
-        if b >= PILES {
-            return Err(Code::NoTarget);
-        }
-        if self.piles[a] < w {
-            return Err(Code::TooLittle);
-        }
-        self.piles = raise(&lower(&self.piles, a, w), b, w)?;
-        Ok(self.piles[b])
+        let to = Pile::of(b).ok_or(Code::NoTarget)?;
+        let less = lower(&self.piles, from, w).ok_or(Code::TooLittle)?;
+        self.piles = raise(&less, to, w)?;
+        Ok(self.piles[to.index()])
     }
 }
 
 /// The piles with a weight more in one of them, unless that would pass the limit.
-fn raise(piles: &[u32; PILES], k: usize, w: u32) -> Result<[u32; PILES], Code>
-    requires { k < 16 }
-    ensures { result ≡ (if passes k w piles.now then Err TooMuch else Ok (raised k w piles.now)) }
+fn raise(piles: &[u32; PILES], to: Pile, w: u32) -> Result<[u32; PILES], Code>
+    ensures { result ≡ (if passes to w piles.now then Err TooMuch else Ok (raised to w piles.now)) }
 {
-    if u64::from(piles[k]) + u64::from(w) > LIMIT {
+    if u64::from(piles[to.index()]) + u64::from(w) > LIMIT {
         return Err(Code::TooMuch);
     }
     let mut after = *piles;
-    after[k] += w;
+    after[to.index()] += w;
     Ok(after)
 }
 
-/// The piles with a weight less in one of them.
-fn lower(piles: &[u32; PILES], k: usize, w: u32) -> [u32; PILES]
-    requires { (k < 16) × (w ≤ pile k piles.now) }
-    ensures { result ≡ lowered k w piles.now }
+/// The piles with a weight less in one of them, unless it holds less than that.
+fn lower(piles: &[u32; PILES], from: Pile, w: u32) -> Option<[u32; PILES]>
+    ensures { result ≡ (if nat_lt (pile from piles.now) w then None else Some (lowered from w piles.now)) }
 {
     let mut after = *piles;
-    after[k] -= w;
-    after
+    after[from.index()] = piles[from.index()].checked_sub(w)?;
+    Some(after)
 }
 
 impl Service for Ledger {
@@ -174,12 +164,12 @@ impl Service for Ledger {
         } };
 
     fn perform(&mut self, _tablet: u16, body: &[u8; BODY]) -> [u8; REPLY] {
-        bytes(self.apply(Fields::read(body)))
+        bytes(self.apply(Fields::from(body)))
     }
 
     fn page(&self, buffer: &mut [u8; PAGE]) -> usize {
         write(&self.piles, buffer);
-        PILE * PILES
+        PILE_SIZE * PILES
     }
 }
 
@@ -187,15 +177,9 @@ impl Service for Ledger {
 fn write(piles: &[u32; PILES], buffer: &mut [u8; PAGE])
     ensures { buffer.new ≡ over_front (page_of piles.now) buffer.old }
 {
+    // Not by `chunks_exact_mut`: once its borrow is over, a proof knows no element that was written through it.
     for (k, weight) in piles.iter().enumerate() {
-        put(buffer, PILE * k, weight.to_le_bytes());
+        let at = PILE_SIZE * k;
+        buffer[at..at + PILE_SIZE].copy_from_slice(&weight.to_le_bytes());
     }
-}
-
-/// Writes four bytes over a buffer from a place on.
-fn put(buffer: &mut [u8], at: usize, bytes: [u8; PILE])
-    requires { at + 4 ≤ length buffer.old }
-    ensures { buffer.new ≡ over_at at bytes buffer.old }
-{
-    buffer[at..at + PILE].copy_from_slice(&bytes);
 }

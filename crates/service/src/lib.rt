@@ -10,6 +10,7 @@ pub mod board;
 pub mod body;
 pub mod laws;
 pub mod ledger;
+mod one_of;
 pub mod reply;
 
 /// How many bytes a body has.

@@ -19,6 +19,7 @@ pub enum Code {
 
 impl Code {
     /// The number by which a reply's bytes tell the code; each service has its own codes from 2 on.
+    // Not `From`: two codes share a number, so that the number is no other form of the code.
     pub fn number(self) -> u16
         ensures { result ≡ code_number self }
     {
@@ -36,6 +37,7 @@ impl Code {
 pub type Reply = Result<u32, Code>;
 
 /// The reply's eight bytes: code 0 and the value, or the code's number and 0.
+// A function: `Reply` is the library's type, so no `From` of ours can be for it. `told` answers numbers, since two codes share one.
 pub fn bytes(reply: Reply) -> [u8; REPLY]
     ensures { result ≡ reply_bytes reply }
 {

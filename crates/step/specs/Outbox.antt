@@ -1,14 +1,10 @@
 -- The memory lent to a call for what it writes: how much it needs, and what a call leaves in it.
-use Rattle.std.specs.Prelude.{ℕ, ◌+◌, List, ◌++◌, length, take, drop}
+use Rattle.std.specs.Prelude.{ℕ, List, ◌++◌, length, drop}
 use Rattle.line.specs.CertLine as cert
 
 -- the memory with bytes written over its front, the rest left as it was
 abbrev pub over_front : List ℕ → List ℕ → List ℕ
 over_front bytes out = bytes ++ drop (length bytes) out
-
--- the memory with bytes written over it from a place on
-abbrev pub pasted : ℕ → List ℕ → List ℕ → List ℕ
-pasted at bytes out = take at out ++ (bytes ++ drop (at + length bytes) out)
 
 -- 2f+1 for the largest f
 abbrev pub largest_quorum : ℕ

@@ -5,7 +5,8 @@
 ghost use Rattle.std.specs.Prelude.{◌≡◌, ◌+◌, ◌≤◌, ◌++◌, length, nat_le};
 ghost use Rattle.step.specs.Deliveries.{Delivery};
 ghost use Rattle.step.specs.Histories.{link};
-ghost use Rattle.step.specs.Outbox.{least_room, over_front, pasted};
+ghost use Rattle.step.specs.Outbox.{least_room, over_front};
+ghost use Rattle.step.specs.Steps.{CallsAreSteps};
 ghost use Rattle.seal.specs.Meaning.{tag_size};
 
 use digest::sha256_two;
@@ -58,28 +59,20 @@ pub fn deliver<S: Seal>(
 fn has_room(text: usize, rest: usize, room: usize) -> bool
     ensures { result ≡ nat_le (text + tag_size + rest) room }
 {
+    // Taken off one by one, since the sum of three lengths may pass a `usize`.
     room >= TAG_SIZE && room - TAG_SIZE >= text && room - TAG_SIZE - text >= rest
 }
 
 /// Writes three parts, one behind the other, into the front of the outbox.
-#[tactic(auto, using(crate::proofs::Pastes::three_parts))]
 fn write_parts(text: &[u8], tag: &[u8], rest: &[u8], out: &mut [u8])
     requires { length text.now + length tag.now + length rest.now ≤ length out.old }
     ensures { out.new ≡ over_front (text.now ++ (tag.now ++ rest.now)) out.old }
 {
-    let tag_at = text.len();
-    let rest_at = tag_at + tag.len();
-    put(out, 0, text);
-    put(out, tag_at, tag);
-    put(out, rest_at, rest);
-}
-
-/// Writes bytes at a place of the outbox.
-fn put(out: &mut [u8], at: usize, bytes: &[u8])
-    requires { at + length bytes.now ≤ length out.old }
-    ensures { out.new ≡ pasted at bytes.now out.old }
-{
-    out[at..at + bytes.len()].copy_from_slice(bytes);
+    let (front, behind) = out.split_at_mut(text.len());
+    front.copy_from_slice(text);
+    let (front, behind) = behind.split_at_mut(tag.len());
+    front.copy_from_slice(tag);
+    behind[..rest.len()].copy_from_slice(rest);
 }
 
 /// The history after one more CALL, by its text.
@@ -88,3 +81,10 @@ pub fn link(history: &[u8; HISTORY_SIZE], call_text: &[u8; CALL_TEXT_SIZE]) -> [
 {
     sha256_two(history, call_text).unwrap()
 }
+
+/// Whatever a machine holds, a call that carries its decision out makes the step that a run has for it: the state then
+/// held, whether it is accepted, and what stands in the outbox.
+#[tactic(auto, using(crate::proofs::Carrying::carried_steps))]
+pub fn calls_are_steps<S>()
+    ensures { CallsAreSteps S }
+{}

@@ -1,7 +1,9 @@
 -- The first row with which enough boxes agree.
 use Rattle.std.proofs.lemmas.Grind.{common_steps}
-use Rattle.std.proofs.Common.{◌≡◌, ℕ, zero, suc, ◌<◌, ◌≤◌, Bool, false, cond, leb, List, [], ◌∷◌, get_or, Some, None, Option, sym, refl, subst, ⊎_elim, arith}
+use Rattle.std.proofs.Common.{◌≡◌, ℕ, zero, suc, ◌<◌, ◌≤◌, Bool, true, false, cond, leb, List, [], ◌∷◌, get_or, Some, None, Option, sym, refl, subst, ⊎_elim, arith}
 use Rattle.std.proofs.lemmas.Bool.{cases_Bool, leb-true}
+use Rattle.std.specs.Option.{option_flatten}
+use Rattle.std.specs.List.{find}
 use Rattle.vote.specs.Counting.{leads, first_leading, leading_of, count_of, Lowest}
 
 module _ {V : Type 0} (agree : V → V → Bool) (n : ℕ) where
@@ -44,3 +46,12 @@ module _ {V : Type 0} (agree : V → V → Bool) (n : ℕ) where
   -- the row found is the lowest box's that leads
   pub leading_lowest : (rows : List (Option V)) (found : Option V) → found ≡ leading_of agree n rows → Lowest agree n rows found
   leading_lowest rows found e = grind (arith, common_steps, same_low, first_lowest)
+
+  -- the first row that leads is the row found
+  flatten_cond : (t : Bool) (row : Option V) (found : Option (Option V)) (rest : Option V) → option_flatten found ≡ rest → option_flatten (cond t (Some row) found) ≡ cond t row rest
+  flatten_cond true row found rest e = refl
+  flatten_cond false row found rest e = e
+
+  pub found_leads : (all rows : List (Option V)) → option_flatten (find (leads agree n all) rows) ≡ first_leading agree n all rows
+  found_leads all [] = refl
+  found_leads all (row ∷ rows) = flatten_cond (leads agree n all row) row (find (leads agree n all) rows) (first_leading agree n all rows) (found_leads all rows)

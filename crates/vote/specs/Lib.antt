@@ -1,3 +1,4 @@
+pub mod Claims
 pub mod Parts
 pub mod AnswerVotes
 pub mod CommittedVotes

@@ -1,12 +1,10 @@
 //! A box's ANSWER as a vote: which place, history and reply the box gives.
 ghost use Rattle.line.specs.AnswerLine.{shown};
 ghost use Rattle.vote.specs.AnswerVotes.{answer_vote, answers_agree};
-ghost use Rattle.std.specs.Cmp.Rules.{comparing};
-ghost use Rattle.std.specs.Prelude.{◌≡◌};
-ghost use Rattle.std.proofs.Common.{rules};
+ghost use Rattle.std.specs.Prelude.{◌≡◌, refl};
 
 use crate::bytes::array;
-use crate::{Sent, Vote};
+use crate::{Ballot, Claim};
 use fault::Fault;
 use line::answer::Answer;
 use line::layout::{HISTORY_WIDTH, REPLY_WIDTH, TAG_WIDTH};
@@ -20,19 +18,22 @@ pub struct AnswerClaim {
 }
 
 /// What a box answered, with its tag, which a certificate shows.
-#[derive(Clone, Copy, Debug)]
-pub struct AnswerVote {
-    pub sender: u16,
-    pub claim: AnswerClaim,
-    pub tag: [u8; TAG_WIDTH],
+pub type AnswerVote = Ballot<AnswerClaim, [u8; TAG_WIDTH]>;
+
+impl Claim for AnswerClaim {
+    ghost agree = { answers_agree };
+
+    ghost equal_is = { λ v w. refl };
 }
 
-impl AnswerVote {
-    /// The vote that an ANSWER is; refused where a part has not its width.
-    pub fn of(line: &Answer<'_>) -> Result<AnswerVote, Fault>
-        ensures { result ≡ answer_vote (shown line.now) }
-    {
-        Ok(AnswerVote {
+/// The vote that an ANSWER is; refused where a part has not its width.
+impl TryFrom<&Answer<'_>> for AnswerVote {
+    type Error = Fault;
+
+    ghost try_from_gives = { λ line result. result ≡ answer_vote (shown line.now) };
+
+    fn try_from(line: &Answer<'_>) -> Result<AnswerVote, Fault> {
+        Ok(Ballot {
             sender: line.sender,
             claim: AnswerClaim {
                 place: line.place,
@@ -41,24 +42,5 @@ impl AnswerVote {
             },
             tag: array(line.tag)?,
         })
-    }
-}
-
-impl Sent for AnswerVote {
-    ghost origin = { λ v. v.sender };
-
-    fn sender(&self) -> u16 {
-        self.sender
-    }
-}
-
-/// Two ANSWERs agree in place, history and reply; the tag does not count.
-impl Vote for AnswerVote {
-    ghost agree = { answers_agree };
-
-    ghost equivalence = { Prim.search (comparing, rules) };
-
-    fn agrees(&self, other: &AnswerVote) -> bool {
-        self.claim == other.claim
     }
 }

@@ -1,12 +1,10 @@
 //! A box's COMMITTED as a vote: which call it holds for good, at which place and history.
 ghost use Rattle.line.specs.CommittedLine.{shown};
 ghost use Rattle.vote.specs.CommittedVotes.{committed_vote, committeds_agree};
-ghost use Rattle.std.specs.Cmp.Rules.{comparing};
-ghost use Rattle.std.specs.Prelude.{◌≡◌};
-ghost use Rattle.std.proofs.Common.{rules};
+ghost use Rattle.std.specs.Prelude.{◌≡◌, refl};
 
 use crate::bytes::array;
-use crate::{Sent, Vote};
+use crate::{Ballot, Claim};
 use fault::{Fault, Reason};
 use line::committed::Committed;
 use line::layout::{HISTORY_WIDTH, TAG_WIDTH};
@@ -21,21 +19,25 @@ pub struct CommittedClaim {
 }
 
 /// What a box holds for good.
-#[derive(Clone, Copy, Debug)]
-pub struct CommittedVote {
-    pub sender: u16,
-    pub claim: CommittedClaim,
+pub type CommittedVote = Ballot<CommittedClaim>;
+
+impl Claim for CommittedClaim {
+    ghost agree = { committeds_agree };
+
+    ghost equal_is = { λ v w. refl };
 }
 
-impl CommittedVote {
-    /// The vote that a COMMITTED is; refused where a part has not its width.
-    pub fn of(line: &Committed<'_>) -> Result<CommittedVote, Fault>
-        ensures { result ≡ committed_vote (shown line.now) }
-    {
+/// The vote that a COMMITTED is; refused where a part has not its width.
+impl TryFrom<&Committed<'_>> for CommittedVote {
+    type Error = Fault;
+
+    ghost try_from_gives = { λ line result. result ≡ committed_vote (shown line.now) };
+
+    fn try_from(line: &Committed<'_>) -> Result<CommittedVote, Fault> {
         if line.tag.len() != TAG_WIDTH {
             return Err(Fault::of(Reason::Room));
         }
-        Ok(CommittedVote {
+        Ok(Ballot {
             sender: line.sender,
             claim: CommittedClaim {
                 place: line.place,
@@ -43,25 +45,7 @@ impl CommittedVote {
                 client: line.client,
                 stamp: line.stamp,
             },
+            tag: (),
         })
-    }
-}
-
-impl Sent for CommittedVote {
-    ghost origin = { λ v. v.sender };
-
-    fn sender(&self) -> u16 {
-        self.sender
-    }
-}
-
-/// Two COMMITTEDs agree in all that stands between header and tag: place, history, tablet and stamp.
-impl Vote for CommittedVote {
-    ghost agree = { committeds_agree };
-
-    ghost equivalence = { Prim.search (comparing, rules) };
-
-    fn agrees(&self, other: &CommittedVote) -> bool {
-        self.claim == other.claim
     }
 }

@@ -1,6 +1,6 @@
 //! The tally: one row for each box, in memory that is lent, and what the rows say together.
 ghost use Rattle.vote.specs.Counting.{row_of, has_row, added, rows_added, replaced, rows_replaced, row_agrees, voters_of, count_of, CountedOnce, leads, leading_of, Lowest, most_boxes, listed, memory_listed, OneQuorum, SeatsKept};
-ghost use Rattle.std.specs.Prelude.{◌≡◌, ◌<◌, ◌≤◌, length, take, slice_set};
+ghost use Rattle.std.specs.Prelude.{◌≡◌, ◌≤◌, length, take};
 
 use crate::Vote;
 use fault::{Fault, Reason};
@@ -9,6 +9,7 @@ use fault::{Fault, Reason};
 const MOST_BOXES: usize = 65_536;
 
 /// Rows of votes, indexed by box.
+// Not `impl Model`: it would hide whose memory the rows are, which the clauses `lender` hand on, and a caller would learn nothing of its rows.
 #[derive(Drop)]
 pub struct Tally<'a, V> {
     rows: &'a mut [Option<V>],
@@ -129,21 +130,10 @@ fn row_leads<V: Vote>(rows: &[Option<V>], n: usize, row: &Option<V>) -> bool
 fn first_leading<V: Vote + Copy>(rows: &[Option<V>], n: usize) -> Option<V>
     ensures { result ≡ leading_of V.agree n rows.now }
 {
-    for row in rows {
-        if row_leads(rows, n, row) {
-            return *row;
-        }
-    }
-    None
-}
-
-/// Writes a box behind those that are listed already.
-fn append(out: &mut [u16], listed: usize, replica: usize)
-    requires room { listed < length out.old }
-    requires fits { replica < most_boxes }
-    ensures { out.new ≡ slice_set out.old listed replica }
-{
-    out[listed] = replica as u16;
+    rows.iter()
+        .find(|row| row_leads(rows, n, row))
+        .copied()
+        .flatten()
 }
 
 /// Fills the memory with the lowest boxes that agree with the vote, rising.
@@ -152,13 +142,14 @@ fn list<V: Vote>(rows: &[Option<V>], vote: &V, out: &mut [u16])
     requires enough { length out.old ≤ count_of V.agree vote.now rows.now }
     ensures { out.new ≡ take (length out.old) (voters_of V.agree vote.now rows.now) }
 {
+    // By `zip` with `out.iter_mut()`, tried, what is listed stays open: of memory behind `iter_mut` only the length is told.
     let mut listed = 0;
-    for replica in 0..rows.len() {
+    for (replica, row) in rows.iter().enumerate() {
         if listed == out.len() {
             return;
         }
-        if row_agrees(vote, &rows[replica]) {
-            append(out, listed, replica);
+        if row_agrees(vote, row) {
+            out[listed] = replica as u16;
             listed += 1;
         }
     }

@@ -6,5 +6,5 @@ use Rattle.hear.proofs.check_entries.Given as goal
 
 abbrev pub invariant-loop-i : goal.invariant-loop-i
 invariant-loop-i g l =
-    admitted (g.S.Seal.meaning l.seal) (entry_vouchers (shown l.cert) 0 l.cert.count)
-    ≡ admitted (g.S.Seal.meaning l.seal) (entry_vouchers (shown l.cert) l.i (l.cert.count - l.i))
+    admitted (g.S.Seal.meaning l.seal) (entry_vouchers (shown l.cert.line.now) 0 l.cert.line.now.count)
+    ≡ admitted (g.S.Seal.meaning l.seal) (entry_vouchers (shown l.cert.line.now) l.i (l.cert.line.now.count - l.i))

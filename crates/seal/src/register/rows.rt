@@ -11,9 +11,11 @@ const HEAD_SIZE: usize = 4;
 const ROW_SIZE: usize = HEAD_SIZE + LONGEST_TEXT;
 
 /// Party, length, text, zeros.
+// Bytes and no struct: a row's 304 bytes are a format of the rules.
 pub(super) type Row = [u8; ROW_SIZE];
 
 /// Writes the bytes into the slice, from that place on.
+// Of this crate alone, as a line's `put` is of its: what other crates can reach may ask nothing of its callers.
 fn put(out: &mut [u8], at: usize, bytes: &[u8])
     requires { at + length bytes.now ≤ length out.old }
     ensures { out.new ≡ take at out.old ++ (bytes.now ++ drop (at + length bytes.now) out.old) }

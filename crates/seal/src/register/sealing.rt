@@ -26,13 +26,11 @@ impl Register {
         if rows > MOST_ROWS {
             return Err(Unopened::TooManyRows);
         }
-        match Vec::with_capacity(heap, rows) {
-            Ok(reserved) => Ok(Register {
-                limit: rows,
-                rows: reserved,
-            }),
-            Err(_) => Err(Unopened::NoMemory),
-        }
+        let reserved = Vec::with_capacity(heap, rows).map_err(|_| Unopened::NoMemory)?;
+        Ok(Register {
+            limit: rows,
+            rows: reserved,
+        })
     }
 
     /// How many rows can still be written.
@@ -74,6 +72,7 @@ impl Seal for Register {
         }
         let number = u32::from_le_bytes([tag[0], tag[1], tag[2], tag[3]]);
         let at = number as usize;
+        // Not by `get` and `is_some_and`: the closure's contract leaves `returns` open here.
         at < self.rows.len() && tells(&self.rows[at], number, party, text, tag)
     }
 }

@@ -5,6 +5,6 @@ use Rattle.service.proofs.ledger.LedgerService.perform.Goals as goal
 
 pub returns : goal.returns
 returns c = record {
-  after = performs c.args.self.now.piles c.apply.new.self.piles c.apply.result c.read.result c.args._tablet c.args.body.now c.args.self.now.within c.read.ensures c.apply.ensures;
-  answer = c.bytes.ensures ∙ answers c.args.self.now.piles c.apply.new.self.piles c.apply.result c.read.result c.args._tablet c.args.body.now c.args.self.now.within c.read.ensures c.apply.ensures;
+  after = performs c.args.self.now.piles c.apply.new.self.piles c.apply.result c.from.result c.args._tablet c.args.body.now c.args.self.now.within c.from.ensures c.apply.ensures;
+  answer = c.bytes.ensures ∙ answers c.args.self.now.piles c.apply.new.self.piles c.apply.result c.from.result c.args._tablet c.args.body.now c.args.self.now.within c.from.ensures c.apply.ensures;
 }

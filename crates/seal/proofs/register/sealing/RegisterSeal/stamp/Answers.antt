@@ -4,19 +4,6 @@ use Rattle.seal.specs.Rows.{entries_of, register_meaning, row_tag}
 use Rattle.seal.specs.Told.{register_stamped, row_left}
 use Rattle.seal.proofs.register.sealing.RegisterSeal.stamp.Goals as goal
 
-pub row_of-requires : goal.row_of-requires
-row_of-requires c = (row_left c.args.self.now.limit c.args.party c.args.text.now (vec_items c.args.self.now.rows) c.if-not-may_stamp.ensures).1
-
-pub push_reserved-requires : goal.push_reserved-requires
-push_reserved-requires c =
-    let left = row_left c.args.self.now.limit c.args.party c.args.text.now (vec_items c.args.self.now.rows) c.if-not-may_stamp.ensures in
-    omega (arith, left.0, c.args.self.now.rows.ok.0)
-
-pub invariant_of-self : goal.invariant_of-self
-invariant_of-self c =
-    let left = row_left c.args.self.now.limit c.args.party c.args.text.now (vec_items c.args.self.now.rows) c.if-not-may_stamp.ensures in
-    record { reserved = omega arith; room = omega (arith, left.0, c.args.self.now.rows.ok.0); few = c.args.self.now.few }
-
 pub returns : goal.returns
 returns c =
     let left = row_left c.args.self.now.limit c.args.party c.args.text.now (vec_items c.args.self.now.rows) c.if-not-may_stamp.ensures in

@@ -1,0 +1,5 @@
+pub mod Checked
+pub mod Bytes
+pub mod PartsKept
+pub mod FormsKept
+pub mod Shows
