@@ -202,7 +202,7 @@ impl Words {
     }
 
     /// The eight words as bytes.
-    // A method: `From` would say no more, and `write` fills the memory that it hands back.
+    // A method: `From` would say no more.
     pub fn to_bytes(self) -> Digest
         ensures { result ≡ digest_bytes self }
     {
@@ -243,7 +243,8 @@ fn word_at(block: &Block, t: usize) -> u32
 }
 
 /// Writes the message schedule of a block.
-// Into memory lent: handed back as an array it costs a tenth of the speed of a whole digest.
+// Into memory lent, since an array handed back costs a tenth of a digest's speed; and into a slice, since of `&mut [u32; 64]` it stayed open
+// what the memory ends as.
 fn expand(block: &Block, schedule: &mut [u32])
     requires { length schedule.old ≡ 64 }
     ensures { schedule.new ≡ message_schedule block.now 64 }

@@ -17,6 +17,8 @@ const INNER_PAD: u8 = 0x36;
 
 const OUTER_PAD: u8 = 0x5c;
 
+// The work block is lent and not owned: a box has a stated memory.
+
 /// Holds a lent block and wipes it in the end, so that no trace of a key stays behind on any way out.
 struct Wiped<'a> {
     block: &'a mut [u8],
@@ -40,9 +42,7 @@ pub fn hmac_sha256(key: &[u8], text: &[u8], work: &mut [u8]) -> Result<[u8; 32],
     if key.len() > MAX_KEY || text.len() > MAX_TEXT {
         return Err(Fault::of(Reason::Room));
     }
-    let Ok(block) = <&mut Block>::try_from(&mut guard.block[..]) else {
-        return Err(Fault::of(Reason::Room));
-    };
+    let block = <&mut Block>::try_from(&mut guard.block[..]).map_err(|_| Fault::of(Reason::Room))?;
     Ok(mac(block, key, text))
 }
 

@@ -39,6 +39,7 @@ pub enum Reason {
 
 impl Reason {
     /// The number by which a refusal is known in lines, traces and documents.
+    // A method: each number stands beside its reason either way, and `number` says what `u8::from` would not.
     pub fn number(self) -> u8
         ensures { result ≡ number_of self }
     {

@@ -17,6 +17,7 @@ use crate::heard::Heard;
 use fault::{Fault, Reason};
 use hear::hear;
 use line::kind::Kind;
+use line::layout::{BODY_WIDTH, LAST_NUMBER};
 use line::lines::Line;
 use line::order;
 use line::order::Order;
@@ -26,13 +27,13 @@ use seal::Seal;
 use step::{HISTORY_SIZE, NO_HISTORY, deliver, link, roomy};
 
 /// How many places there are to give.
-const LAST_PLACE: u32 = 1_000_000;
+const LAST_PLACE: u32 = LAST_NUMBER;
 
 /// How many tablets a lead keeps a row for.
 const ROWS: usize = CLIENTS as usize;
 
 /// How many bytes a body has.
-const BODY_SIZE: usize = 16;
+const BODY_SIZE: usize = BODY_WIDTH;
 
 /// What the lead takes.
 const CALLS_ONLY: &[Kind] = &[Kind::Call];
@@ -63,6 +64,7 @@ enum Assignment {
 }
 
 /// The lead of a pit: the last place that it gave, the history there, and the last call of each tablet.
+// Rows in an array, and no map: a box has a stated memory.
 #[derive(Drop)]
 pub struct Lead {
     pit: Pit,

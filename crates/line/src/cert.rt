@@ -43,6 +43,7 @@ pub struct Cert<'a> {
     pub client: u16,
     pub stamp: u32,
     pub reply: &'a [u8],
+    // A field of the line, which the reader compares with the quorum, and no length of `entries`.
     pub count: u16,
     pub entries: &'a [u8],
     pub tag: &'a [u8],
@@ -96,7 +97,7 @@ impl<'a> Cert<'a> {
     fn size(&self) -> usize
         ensures { result ≡ size_of self.now.count }
     {
-        ENTRIES_AT + ENTRY_SIZE * self.count as usize + TAG_WIDTH
+        Form::tag_at(self) + TAG_WIDTH
     }
 
     /// Place and stamp may be given, the tablet is the sender, and the entries are those of a quorum.

@@ -54,6 +54,8 @@ pub const LAST_NUMBER: u32 = 1_000_000;
 /// Sheets are made at every eighth place.
 pub const SHEET_STEP: u32 = 8;
 
+// Each of these asks that its bytes are there, at an offset and of a width of its own: no type could say it once for all.
+
 /// The bytes of a part whose width the caller's type tells.
 fn array_at<const WIDTH: usize>(bytes: &[u8], at: usize) -> [u8; WIDTH]
     requires { at + WIDTH ≤ length bytes.now }

@@ -11,7 +11,7 @@ use crate::taken::Taken;
 use fault::{Fault, Reason};
 
 /// The form of one kind: how its record lies in a line.
-// Seven impls of one shape: what differs is which fields a kind has, fields have names, and a macro of our own may write no impl.
+// Seven impls of one shape: what differs is which fields a kind has, fields have names, and an impl that a macro of our own writes is refused.
 pub(crate) trait Form: Copy {
     /// What a line of the kind says.
     ghost Model: { Type 0 };
@@ -69,6 +69,7 @@ pub(crate) trait FromLine<'a>: Form {
 }
 
 /// What a line of one kind says.
+// Beside `Form`, whose methods ask something of their callers: what other crates can reach asks nothing.
 pub trait Record {
     /// What a line of the kind says.
     ghost Model: { Type 0 };

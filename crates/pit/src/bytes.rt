@@ -7,6 +7,7 @@ use std::fmt;
 #[derive(Drop)]
 pub(crate) struct Hex<'a>(pub &'a [u8]);
 
+// By hand: a derive prints fields, and these are digits.
 impl fmt::Display for Hex<'_> {
     fn fmt<W: fmt::Write>(&self, f: &mut fmt::Formatter<W>) -> fmt::Result {
         if self.0.is_empty() {

@@ -45,6 +45,7 @@ pub(crate) fn batch(rt: &HostRuntime) -> anyhow::Result<()> {
 fn obey(rt: &HostRuntime, line: &str) -> Result<(), Trouble> {
     let heap = rt.alloc();
     let words: Vec<&str> = line.split_whitespace().collect(heap)?;
+    // A switch on patterns, as in `main`.
     let digest = match words.as_slice() {
         ["sha256", message, ..] => sha256(bytes::read(heap, message)?.as_slice())?,
         ["two", first, second, ..] => sha256_two(

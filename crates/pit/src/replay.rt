@@ -65,6 +65,7 @@ impl<'a> Session<'a> {
     fn obey(&mut self, line: &str) -> Result<(), Trouble> {
         let command = line.split(COMMENT).next().unwrap_or("");
         let words: Vec<&str> = command.split_whitespace().collect(self.rt.alloc())?;
+        // A switch on patterns, as in `main`.
         match words.as_slice() {
             [] => Ok(()),
             ["pit", f, view, seals, "board" | "ledger"] => self.open(f, view, seals),

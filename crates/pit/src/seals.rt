@@ -51,6 +51,7 @@ pub(crate) fn demonstration_keys() -> Result<[Key; PARTIES], Fault>
 fn obey<S: Seal>(rt: &HostRuntime, seal: &mut S, line: &str) -> Result<(), Trouble> {
     let heap = rt.alloc();
     let words: Vec<&str> = line.split(' ').collect(heap)?;
+    // A switch on patterns, as in `main`.
     match words.as_slice() {
         ["ready", party] => {
             let said = seal.ready(party.parse::<u16>()?);

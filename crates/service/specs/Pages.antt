@@ -3,7 +3,7 @@ use Rattle.std.proofs.lemmas.Grind.{common_steps}
 use Rattle.std.specs.Prelude.{◌≡◌, ℕ, suc, ◌+◌, ◌*◌, ◌/◌, ◌%◌, ◌<◌, ◌≤◌, List, [], ◌∷◌, ◌++◌, length, take, drop, slice_index, refl}
 use Rattle.std.proofs.Math.Nat.{div-add-mod, div-div-eq-div-mul}
 use Rattle.std.proofs.Common.{mod-eq_of_lt, arith, ap, sym, ◌∙◌}
-use Rattle.std.proofs.lemmas.List.{append_assoc, drop_at, drop-drop, flat_map_more, take_all, take_at, take_more, length-take-le}
+use Rattle.std.proofs.lemmas.List.{append_assoc, drop_at, drop-drop, flat_map_more, take_at, take_more, length-take-le}
 use Rattle.service.specs.Bodies.{fields_of}
 use Rattle.service.specs.Ledgers.{Within, ledger, ledger_rule, page_of, piles_of}
 use Rattle.service.specs.Meaning.{answered, over_front, performed}
@@ -51,10 +51,6 @@ write_more piles buffer k h =
 -- the same at what a turn of the loop finds and leaves
 pub written : (piles buffer before after bytes : List ℕ) (k : ℕ) → k < length piles → before ≡ page_of (take k piles) ++ drop (4 * k) buffer → bytes ≡ four_bytes (slice_index piles k) → after ≡ over_at (4 * k) bytes before → after ≡ page_of (take (k + 1) piles) ++ drop (4 * (k + 1)) buffer
 written piles buffer before after bytes k h was these put = let more = write_more piles buffer k h in cc
-
--- all piles are written
-pub written_all : (piles buffer after : List ℕ) (k : ℕ) → length piles ≤ k → k ≤ length piles → after ≡ page_of (take k piles) ++ drop (4 * k) buffer → after ≡ over_front (page_of piles) buffer
-written_all piles buffer after k low high was = grind (arith, common_steps, take_all, length_page)
 
 -- the rule on the piles is the rule on the pages
 at_pages : (piles : List ℕ) (f : Fields) (body : List ℕ) → Within piles → f ≡ fields_of body → ledger_rule piles f ≡ ledger_rule (piles_of (page_of piles)) (fields_of body)

@@ -153,6 +153,7 @@ fn lower(piles: &[u32; PILES], from: Pile, w: u32) -> Option<[u32; PILES]>
     Some(after)
 }
 
+// Alike to the board's, and no third trait for the two: a line or two of it is the same, the rest is each service's own.
 impl Service for Ledger {
     ghost meaning = { λ s. ledger s.piles };
 

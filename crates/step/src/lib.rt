@@ -11,7 +11,7 @@ ghost use Rattle.seal.specs.Meaning.{tag_size};
 
 use digest::sha256_two;
 use fault::{Fault, Reason};
-use line::layout::TAG_WIDTH;
+use line::layout::{HISTORY_WIDTH, TAG_WIDTH};
 use line::{call, cert};
 use seal::{Seal, TAG_SIZE};
 
@@ -22,7 +22,7 @@ const LARGEST_QUORUM: usize = 7;
 pub const LEAST_ROOM: usize = cert::ENTRIES_AT + cert::ENTRY_SIZE * LARGEST_QUORUM + TAG_WIDTH;
 
 /// How many bytes a history has.
-pub const HISTORY_SIZE: usize = 32;
+pub const HISTORY_SIZE: usize = HISTORY_WIDTH;
 
 /// The history before place 1.
 pub const NO_HISTORY: [u8; HISTORY_SIZE] = [0; HISTORY_SIZE];

@@ -56,6 +56,7 @@ impl<'a, V: Vote + Copy> Tally<'a, V> {
         ensures after { self.new.rows.now ≡ rows_replaced self.old.rows.now (V.Sent.origin vote) vote }
         ensures lender { self.new.rows.ghost_name ≡ self.old.rows.ghost_name }
     {
+        // Not by `get_mut`: of memory behind it only the length is told afterwards.
         let at = vote.sender() as usize;
         if at >= self.rows.len() {
             return Err(Fault::of(Reason::Sender));
@@ -102,10 +103,7 @@ impl<'a, V: Vote + Copy> Tally<'a, V> {
 fn row_agrees<V: Vote>(vote: &V, row: &Option<V>) -> bool
     ensures { result ≡ row_agrees V.agree vote.now row.now }
 {
-    match row {
-        Some(other) => vote.agrees(other),
-        None => false,
-    }
+    row.as_ref().is_some_and(|other| vote.agrees(other))
 }
 
 /// How many rows agree with the vote.
@@ -120,10 +118,7 @@ fn count<V: Vote>(rows: &[Option<V>], vote: &V) -> usize
 fn row_leads<V: Vote>(rows: &[Option<V>], n: usize, row: &Option<V>) -> bool
     ensures { result ≡ leads V.agree n rows.now row.now }
 {
-    match row {
-        Some(vote) => count(rows, vote) >= n,
-        None => false,
-    }
+    row.as_ref().is_some_and(|vote| count(rows, vote) >= n)
 }
 
 /// The first row with which at least `n` rows agree.

@@ -70,6 +70,7 @@ impl Seal for Register {
         if tag.len() != TAG_SIZE {
             return false;
         }
+        // Byte by byte, as in rows: one number of a width, so that a reader for any width is no shorter.
         let number = u32::from_le_bytes([tag[0], tag[1], tag[2], tag[3]]);
         let at = number as usize;
         // Not by `get` and `is_some_and`: the closure's contract leaves `returns` open here.
