@@ -28,6 +28,7 @@ const TOO_MANY: usize = PARTIES + 1;
 const ROWS: usize = 3;
 
 /// The party that stands at the place among the 26.
+// No `From`: a place is a number like any other.
 fn party_at(place: usize) -> u16
     requires { place < 26 }
     ensures { result ≡ party_at place }

@@ -12,6 +12,7 @@ pub struct Fields {
     pub b: u16,
     pub w: u32,
     /// Whether the tail is zero.
+    // A fact by itself: no other field is read by it.
     pub padded: bool,
 }
 
