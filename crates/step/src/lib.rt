@@ -38,6 +38,7 @@ pub fn roomy(room: usize) -> bool
 }
 
 /// Stamps a text for a party, and writes the text, its tag and further bytes into the front of the outbox.
+// The outbox is lent and not owned: a box has a stated memory, and its caller sends what lies there.
 pub fn deliver<S: Seal>(
     seal: &mut S,
     party: u16,
