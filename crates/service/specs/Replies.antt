@@ -19,10 +19,14 @@ code_number TooMuch = 5
 abbrev pub Reply : Type 0
 Reply = Result ℕ Code
 
--- the reply's eight bytes: code, value, two zeros; the value is 0 unless the body was done
+-- the eight bytes of a code's number and a value: code, value, two zeros
+abbrev pub coded_bytes : ℕ → ℕ → List ℕ
+coded_bytes code value = two_bytes code ++ (four_bytes value ++ (0 ∷ 0 ∷ []))
+
+-- the reply's eight bytes; the value is 0 unless the body was done
 abbrev pub reply_bytes : Reply → List ℕ
-reply_bytes (Ok value) = two_bytes 0 ++ (four_bytes value ++ (0 ∷ 0 ∷ []))
-reply_bytes (Err code) = two_bytes (code_number code) ++ (four_bytes 0 ++ (0 ∷ 0 ∷ []))
+reply_bytes (Ok value) = coded_bytes 0 value
+reply_bytes (Err code) = coded_bytes (code_number code) 0
 
 -- the code and the value that a reply's bytes tell
 abbrev pub code_in : List ℕ → ℕ

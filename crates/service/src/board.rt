@@ -27,7 +27,7 @@ pub const FIRST_SPOT: u16 = 1;
 pub const LAST_SPOT: u16 = 31;
 
 /// How many trucks a spot holds; the gate has room for all.
-pub const SPOT_ROOM: usize = 4;
+pub const SPOT_ROOM: u32 = 4;
 
 /// A truck, by its number.
 type Truck = OneOf<TRUCKS>;
@@ -131,7 +131,7 @@ impl Board {
             return Err(Code::SpotFull);
         }
         self.spots[truck.index()] = spot;
-        Ok(trucks_at(&self.spots, spot) as u32)
+        Ok(trucks_at(&self.spots, spot))
     }
 
     /// Calls a truck back to the gate.
@@ -144,10 +144,10 @@ impl Board {
 }
 
 /// How many trucks stand at a spot.
-fn trucks_at(spots: &[u8; TRUCKS], spot: u8) -> usize
+fn trucks_at(spots: &[u8; TRUCKS], spot: u8) -> u32
     ensures { result ≡ trucks_at spot spots.now }
 {
-    spots.iter().filter(|&&here| here == spot).count()
+    u32::from(spots.iter().map(|&here| u8::from(here == spot)).sum::<u8>())
 }
 
 impl Service for Board {

@@ -1,7 +1,8 @@
 //! The ledger: how much lies on each pile.
 ghost use Rattle.std.specs.Prelude.{◌≡◌, ◌+◌, ◌≤◌, length, if◌then◌else◌, nat_lt, Ok, Err, Some, None};
-ghost use Rattle.service.specs.Ledgers.{Within, ledger, ledger_do, ledger_operation, ledger_rule, ledger_uses, lowered, page_of, passes, pile, raised, start_piles, work_number, piles_of};
+ghost use Rattle.service.specs.Ledgers.{Within, ledger, ledger_do, ledger_operation, ledger_rule, ledger_uses, page_of, passes, pile, raised, start_piles, work_number, piles_of};
 ghost use Rattle.service.specs.Meaning.{over_front};
+ghost use Rattle.service.specs.Rules.{code_if};
 ghost use Rattle.service.specs.declared.reply.Code.TheVariants.{Malformed, TooMuch};
 ghost use Rattle.std.specs.Option.{ok_or};
 ghost use Rattle.service.specs.declared.ledger.Work.TheVariants.{Dig, Haul};
@@ -117,8 +118,7 @@ impl Ledger {
     fn dig(&mut self, to: Pile, w: u32) -> Reply
         ensures { (self.new.piles, result) ≡ ledger_do Dig to 0 w self.old.piles }
     {
-        self.piles = raise(&self.piles, to, w)?;
-        Ok(self.piles[to.index()])
+        raise(&mut self.piles, to, w)
     }
 
     /// Hauls a weight from a pile to the pile of number b, which may be the same.
@@ -126,31 +126,27 @@ impl Ledger {
         ensures { (self.new.piles, result) ≡ ledger_do Haul from b w self.old.piles }
     {
         let to = Pile::of(b).ok_or(Code::NoTarget)?;
-        let less = lower(&self.piles, from, w).ok_or(Code::TooLittle)?;
-        self.piles = raise(&less, to, w)?;
-        Ok(self.piles[to.index()])
+        let left = self.piles[from.index()]
+            .checked_sub(w)
+            .ok_or(Code::TooLittle)?;
+        let mut piles = self.piles;
+        piles[from.index()] = left;
+        let weight = raise(&mut piles, to, w)?;
+        self.piles = piles;
+        Ok(weight)
     }
 }
 
-/// The piles with a weight more in one of them, unless that would pass the limit.
-fn raise(piles: &[u32; PILES], to: Pile, w: u32) -> Result<[u32; PILES], Code>
-    ensures { result ≡ (if passes to w piles.now then Err TooMuch else Ok (raised to w piles.now)) }
+/// Puts a weight more on a pile, unless it would pass the limit, and answers what then lies there.
+fn raise(piles: &mut [u32; PILES], to: Pile, w: u32) -> Reply
+    ensures { (piles.new, result) ≡ code_if (passes to w piles.old) TooMuch piles.old (raised to w piles.old, Ok (pile to (raised to w piles.old))) }
 {
-    if u64::from(piles[to.index()]) + u64::from(w) > LIMIT {
+    let held = piles[to.index()];
+    if u64::from(held) + u64::from(w) > LIMIT {
         return Err(Code::TooMuch);
     }
-    let mut after = *piles;
-    after[to.index()] += w;
-    Ok(after)
-}
-
-/// The piles with a weight less in one of them, unless it holds less than that.
-fn lower(piles: &[u32; PILES], from: Pile, w: u32) -> Option<[u32; PILES]>
-    ensures { result ≡ (if nat_lt (pile from piles.now) w then None else Some (lowered from w piles.now)) }
-{
-    let mut after = *piles;
-    after[from.index()] = piles[from.index()].checked_sub(w)?;
-    Some(after)
+    piles[to.index()] = held + w;
+    Ok(held + w)
 }
 
 // Alike to the board's, and no third trait for the two: a line or two of it is the same, the rest is each service's own.

@@ -1,5 +1,5 @@
 //! A reply: a code, a value and two zero bytes, little-endian.
-ghost use Rattle.service.specs.Replies.{code_in, code_number, reply_bytes, value_in};
+ghost use Rattle.service.specs.Replies.{code_in, code_number, coded_bytes, reply_bytes, value_in};
 ghost use Rattle.std.specs.Prelude.{◌≡◌};
 
 use crate::REPLY;
@@ -41,10 +41,16 @@ pub type Reply = Result<u32, Code>;
 pub fn bytes(reply: Reply) -> [u8; REPLY]
     ensures { result ≡ reply_bytes reply }
 {
-    let (code, value) = match reply {
-        Ok(value) => (0, value),
-        Err(code) => (code.number(), 0),
-    };
+    match reply {
+        Ok(value) => coded(0, value),
+        Err(code) => coded(code.number(), 0),
+    }
+}
+
+/// The eight bytes of any code's number with any value, as `told` reads them back: also of a refusal with a value, which no service gives.
+pub fn coded(code: u16, value: u32) -> [u8; REPLY]
+    ensures { result ≡ coded_bytes code value }
+{
     let [c0, c1] = u16::to_le_bytes(code);
     let [v0, v1, v2, v3] = value.to_le_bytes();
     [c0, c1, v0, v1, v2, v3, 0, 0]
