@@ -35,15 +35,24 @@ fn keyed_tag(key: &Key, text: &[u8], work: &mut [u8; WORK_SIZE]) -> Option<[u8; 
     hmac_sha256(key, text, work).ok()
 }
 
-/// Are the two the same? All bytes are always compared, so that the time tells nothing of where they part.
-fn same_tag(a: &[u8; TAG_SIZE], b: &[u8; TAG_SIZE]) -> bool
-    ensures { result ≡ bytes_eq a.now b.now }
+/// The differences of all bytes gathered in one number: 0 where the two are the same. All bytes are always compared, so that the
+/// time tells nothing of where they part.
+fn difference(a: &[u8; TAG_SIZE], b: &[u8; TAG_SIZE]) -> u8
+    ensures { (result == 0) ≡ bytes_eq a.now b.now }
 {
     let mut difference = 0;
     for (x, y) in a.iter().zip(b) {
         difference |= *x ^ *y;
     }
-    difference == 0
+    difference
+}
+
+/// Are the two the same?
+// A function of its own: its contract refuses a test that lets near tags through, whatever the loop's proof is.
+fn same_tag(a: &[u8; TAG_SIZE], b: &[u8; TAG_SIZE]) -> bool
+    ensures { result ≡ bytes_eq a.now b.now }
+{
+    difference(a, b) == 0
 }
 
 /// Is it this tag?

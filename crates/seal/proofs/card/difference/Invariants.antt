@@ -1,7 +1,7 @@
 -- The bytes of both are taken in step, and the differences so far are gathered.
 use Rattle.std.proofs.Common.{◌≡◌, ◌≤◌, length, drop}
 use Rattle.seal.proofs.Bytewise.{Gathered}
-use Rattle.seal.proofs.card.same_tag.Given as goal
+use Rattle.seal.proofs.card.difference.Given as goal
 
 abbrev pub invariant-loop-x : goal.invariant-loop-x
 invariant-loop-x l = record {

@@ -1,7 +1,7 @@
 use Rattle.std.proofs.Common.{◌≡◌, get_or, ◌≤◌, ◌<◌, [], ◌∷◌, length, ap, ⊎_elim, arith}
 use Rattle.std.proofs.lemmas.List.{length-append, length-drop, drop_more}
 use Rattle.seal.proofs.Bytewise.{gathered_more, gathered_all}
-use Rattle.seal.proofs.card.same_tag.Goals as goal
+use Rattle.seal.proofs.card.difference.Goals as goal
 
 pub loop-x-preserved : goal.loop-x-preserved
 loop-x-preserved c =
