@@ -19,6 +19,9 @@ pub enum Kind {
 }
 
 impl Kind {
+    /// No kind at all.
+    pub const NONE: [Kind; 0] = [];
+
     /// Every kind.
     pub const ALL: [Kind; 7] = [
         Kind::Call,

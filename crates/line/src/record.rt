@@ -156,6 +156,8 @@ pub(crate) fn is_shaped<F: Form>(line: &F) -> bool
 }
 
 /// Puts the line behind what is written, and answers where it ends.
+// Inlined: as a call of its own it doubled what writing an ORDER takes.
+#[inline(always)]
 pub(crate) fn put_line<F: Form>(line: &F, out: &mut [u8], at: usize) -> usize
     requires shape { shaped_in F.form (F.shown line.now) ≡ true }
     requires room { at + size_of F.form (F.form.count (F.shown line.now)) ≤ length out.old }
