@@ -40,7 +40,7 @@ const CALLS_ONLY: &[Kind] = &[Kind::Call];
 
 /// A tablet's last call: its stamp and body, and the place and history that it was given.
 #[derive(Clone, Copy)]
-struct Row {
+pub struct Row {
     stamp: u32,
     place: u32,
     history: [u8; HISTORY_SIZE],
