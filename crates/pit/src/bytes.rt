@@ -20,11 +20,28 @@ impl fmt::Display for Hex<'_> {
     }
 }
 
+/// How many bytes are decoded at once.
+const BLOCK: usize = 64;
+
 /// The bytes that a word of a command writes; `-` writes none. A word that is not hex, or has no digits, is a bad command.
 pub(crate) fn read(heap: Global, word: &str) -> Result<Vec<u8>, Trouble> {
-    match word {
-        "" => Err(Trouble::BadCommand),
-        "-" => Ok(Vec::new(heap)),
-        _ => Ok(hex::decode(heap, word)?),
+    match word.as_bytes() {
+        b"" => Err(Trouble::BadCommand),
+        b"-" => Ok(Vec::new(heap)),
+        digits if digits.len() % 2 != 0 => Err(Trouble::BadCommand),
+        digits => decode(heap, digits),
     }
+}
+
+/// The bytes that pairs of digits write.
+// Block by block, and not by `hex::decode`: that sets memory for all bytes aside before it looks at a digit.
+fn decode(heap: Global, digits: &[u8]) -> Result<Vec<u8>, Trouble> {
+    let mut bytes = Vec::new(heap);
+    let mut block = [0; BLOCK];
+    for digits in digits.chunks(2 * BLOCK) {
+        let part = &mut block[..BLOCK.min(digits.len() / 2)];
+        hex::decode_to_slice(digits, part)?;
+        bytes.extend_from_slice(part)?;
+    }
+    Ok(bytes)
 }

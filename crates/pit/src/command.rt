@@ -1,4 +1,7 @@
 //! Commands that come one a line: each is answered, or told why not.
+ghost use Rattle.std.specs.Iterator.{IsFinite};
+
+use arrayvec::ArrayVec;
 use fault::Fault;
 use hex::FromHexError;
 use seal::register::Unopened;
@@ -20,9 +23,6 @@ pub(crate) enum Trouble {
     /// There is no memory for it.
     #[error(transparent)]
     Memory(#[from] AllocError),
-    /// There is no memory for the bytes that it writes in hex.
-    #[error(transparent)]
-    HexMemory(FromHexError),
     /// No register can be opened for it.
     #[error(transparent)]
     Unopened(#[from] Unopened),
@@ -38,15 +38,25 @@ impl From<ParseIntError> for Trouble {
 }
 
 impl From<FromHexError> for Trouble {
-    fn from(error: FromHexError) -> Trouble {
-        match error {
-            FromHexError::OutOfMemory => Trouble::HexMemory(error),
-            _ => Trouble::BadCommand,
+    fn from(_: FromHexError) -> Trouble {
+        Trouble::BadCommand
+    }
+}
+
+impl Trouble {
+    /// The same, with want of memory told as an error of reading or printing: so `seal` and `read` tell it.
+    #[inline(always)]
+    pub(crate) fn of_io(self) -> Trouble {
+        match self {
+            Trouble::Memory(error) => Trouble::Io(error.into()),
+            _ => self,
         }
     }
 }
 
 /// Prints why a command got no answer, and goes on unless the program cannot.
+// Inlined, as `first_words` and `of_io` are: every line goes through them, and as calls of their own they cost a short one a fifth more.
+#[inline(always)]
 pub(crate) fn tell(rt: &HostRuntime, done: Result<(), Trouble>) -> anyhow::Result<()> {
     let Err(trouble) = done else {
         return Ok(());
@@ -55,6 +65,27 @@ pub(crate) fn tell(rt: &HostRuntime, done: Result<(), Trouble>) -> anyhow::Resul
         Trouble::BadCommand | Trouble::Refused(_) => Ok(println!(rt; "{trouble}")?),
         _ => Err(trouble.into()),
     }
+}
+
+/// How many words of a command are looked at: one more than any command has, so that a word too many shows.
+pub(crate) const MOST_WORDS: usize = 6;
+
+/// The first words of a command.
+// No list of all words: a line may have any number of them, and those that no command has need no memory.
+#[inline(always)]
+pub(crate) fn first_words<'a, I: Iterator<Item = &'a str>>(
+    words: I,
+) -> ArrayVec<&'a str, MOST_WORDS>
+    requires can { I.can_next words }
+    requires finite { IsFinite (I.remaining words) }
+{
+    let mut first = ArrayVec::new();
+    for word in words {
+        if first.try_push(word).is_err() {
+            break;
+        }
+    }
+    first
 }
 
 /// Obeys each line of standard input, and tells what came of it; ends at the first error that no next command can mend.

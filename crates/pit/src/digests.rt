@@ -1,7 +1,7 @@
 //! SHA-256 and HMAC-SHA-256 of files, and of many inputs in one run.
 use crate::bytes;
 use crate::bytes::Hex;
-use crate::command::{Trouble, each_line};
+use crate::command::{Trouble, each_line, first_words};
 use anyhow::anyhow;
 use digest::{hmac_sha256, sha256, sha256_two};
 use fault::Fault;
@@ -44,7 +44,7 @@ pub(crate) fn batch(rt: &HostRuntime) -> anyhow::Result<()> {
 /// Obeys one command; words behind those that it asks for say nothing.
 fn obey(rt: &HostRuntime, line: &str) -> Result<(), Trouble> {
     let heap = rt.alloc();
-    let words: Vec<&str> = line.split_whitespace().collect(heap)?;
+    let words = first_words(line.split_whitespace());
     // A switch on patterns, as in `main`.
     let digest = match words.as_slice() {
         ["sha256", message, ..] => sha256(bytes::read(heap, message)?.as_slice())?,

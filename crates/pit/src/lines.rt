@@ -1,7 +1,7 @@
 //! Lines in words: what bytes are to a pit, for people and for tests.
 use crate::bytes;
 use crate::bytes::Hex;
-use crate::command::{Trouble, each_line, read_set_up, tell};
+use crate::command::{Trouble, each_line, first_words, read_set_up, tell};
 use line::answer::Answer;
 use line::call::Call;
 use line::cert::Cert;
@@ -171,12 +171,19 @@ fn read_kind(word: &str) -> Result<Kind, Trouble> {
     Kind::try_from(word.parse::<u16>()?).map_err(|_| Trouble::BadCommand)
 }
 
-/// The kinds that a word names: `all`, or their numbers with commas between.
-fn read_kinds(heap: Global, word: &str) -> Result<Vec<Kind>, Trouble> {
-    match word {
-        "all" => Ok(Vec::from_slice(heap, &Kind::ALL)?),
-        _ => word.split(',').map(read_kind).try_collect(heap),
+/// The kinds that a word names by their numbers, with commas between: each once, however often it is named. None is every kind, `all`.
+fn read_kinds(heap: Global, word: &str) -> Result<Option<Vec<Kind>>, Trouble> {
+    if word == "all" {
+        return Ok(None);
     }
+    let mut kinds = Vec::with_capacity(heap, Kind::ALL.len())?;
+    for part in word.split(',') {
+        let kind = read_kind(part)?;
+        if !kinds.contains(&kind) {
+            kinds.push(kind).map_err(AllocError::from)?;
+        }
+    }
+    Ok(Some(kinds))
 }
 
 /// Reads bytes as a line of a pit, and prints what they are.
@@ -186,20 +193,22 @@ fn read(rt: &HostRuntime, words: &[&str]) -> Result<(), Trouble> {
     };
     let bytes = bytes::read(rt.alloc(), bytes)?;
     let (f, view) = read_set_up(f, view)?;
-    let kinds = read_kinds(rt.alloc(), kinds)?;
+    let named = read_kinds(rt.alloc(), kinds)?;
+    let kinds = named
+        .as_ref()
+        .map_or(&Kind::ALL[..], |kinds| kinds.as_slice());
     let pit = Pit::open(f, view)?;
-    Ok(print_line(rt, &lines::read(&pit, kinds.as_slice(), bytes.as_slice())?)?)
+    Ok(print_line(rt, &lines::read(&pit, kinds, bytes.as_slice())?)?)
 }
 
 /// `pit read F VIEW KINDS HEX`.
 pub(crate) fn read_one(rt: &HostRuntime, words: &[&str]) -> anyhow::Result<()> {
-    tell(rt, read(rt, words))
+    tell(rt, read(rt, words).map_err(Trouble::of_io))
 }
 
 /// `pit read-many`: reads `F VIEW KINDS HEX` from each line of standard input.
 pub(crate) fn read_many(rt: &HostRuntime) -> anyhow::Result<()> {
     each_line(rt, |line| {
-        let words: Vec<&str> = line.split(' ').collect(rt.alloc())?;
-        read(rt, words.as_slice())
+        read(rt, first_words(line.split(' ')).as_slice()).map_err(Trouble::of_io)
     })
 }

@@ -15,6 +15,7 @@ mod shift;
 mod vectors;
 mod votes;
 
+use crate::command::{MOST_WORDS, first_words};
 use anyhow::anyhow;
 use service::board::Board;
 use service::ledger::Ledger;
@@ -61,8 +62,8 @@ fn main(rt: HostRuntime) -> ExitCode {
 /// Runs the command that the program's arguments say.
 // A switch on patterns and no table of functions: the pattern says how many words a command has and names each.
 fn run(rt: &HostRuntime) -> anyhow::Result<()> {
-    let words: Vec<String> = env::args(rt)?.skip(1).collect(rt.alloc())?;
-    let words: Vec<&str> = words.iter().map(|word| word.as_str()).collect(rt.alloc())?;
+    let words: Vec<String> = env::args(rt)?.skip(1).take(MOST_WORDS).collect(rt.alloc())?;
+    let words = first_words(words.iter().map(|word| word.as_str()));
     match words.as_slice() {
         [] => shift::show(rt),
         ["bench"] => bench::show(rt),

@@ -1,6 +1,6 @@
 //! Replays a trace: one command a line, one line of answer for each.
 use crate::bytes::Hex;
-use crate::command::{Trouble, each_line, read_set_up, tell};
+use crate::command::{Trouble, each_line, first_words, read_set_up, tell};
 use crate::{bytes, seals};
 use fault::Fault;
 use lead::Lead;
@@ -64,7 +64,7 @@ impl<'a> Session<'a> {
     /// Obeys one line of a trace; a line with nothing but a comment says nothing.
     fn obey(&mut self, line: &str) -> Result<(), Trouble> {
         let command = line.split(COMMENT).next().unwrap_or("");
-        let words: Vec<&str> = command.split_whitespace().collect(self.rt.alloc())?;
+        let words = first_words(command.split_whitespace());
         // A switch on patterns, as in `main`.
         match words.as_slice() {
             [] => Ok(()),

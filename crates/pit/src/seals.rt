@@ -4,7 +4,7 @@ ghost use Rattle.std.specs.Prelude.{◌≡◌, ◌<◌};
 
 use crate::bytes;
 use crate::bytes::Hex;
-use crate::command::{Trouble, each_line};
+use crate::command::{Trouble, each_line, first_words};
 use crate::shift::Call;
 use digest::sha256;
 use fault::Fault;
@@ -51,7 +51,7 @@ pub(crate) fn demonstration_keys() -> Result<[Key; PARTIES], Fault>
 /// Obeys `ready PARTY`, `stamp PARTY TEXT` or `check PARTY TEXT TAG`.
 fn obey<S: Seal>(rt: &HostRuntime, seal: &mut S, line: &str) -> Result<(), Trouble> {
     let heap = rt.alloc();
-    let words: Vec<&str> = line.split(' ').collect(heap)?;
+    let words = first_words(line.split(' '));
     // A switch on patterns, as in `main`.
     match words.as_slice() {
         ["ready", party] => {
@@ -78,13 +78,16 @@ fn obey<S: Seal>(rt: &HostRuntime, seal: &mut S, line: &str) -> Result<(), Troub
 /// `pit seal card OWNER`: answers commands from standard input.
 pub(crate) fn serve_card(rt: &HostRuntime, owner: &str) -> anyhow::Result<()> {
     let mut card = Card::open(owner.parse::<u16>()?, demonstration_keys()?);
-    each_line(rt, |line| obey(rt, &mut card, line))
+    each_line(rt, |line| obey(rt, &mut card, line).map_err(Trouble::of_io))
 }
 
 /// `pit seal register ROWS`: answers commands from standard input.
 pub(crate) fn serve_register(rt: &HostRuntime, rows: &str) -> anyhow::Result<()> {
     let mut register = Register::open(rt.alloc(), rows.parse::<usize>()?)?;
-    each_line(rt, |line| obey(rt, &mut register, line))
+    each_line(
+        rt,
+        |line| obey(rt, &mut register, line).map_err(Trouble::of_io),
+    )
 }
 
 /// Why a key file is not taken. Lines and columns count from 1.

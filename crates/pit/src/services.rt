@@ -1,4 +1,6 @@
 //! The services by themselves: bodies from a file, and what a service holds as a small table.
+ghost use Rattle.std.specs.Prelude.{◌≡◌, nat_eq};
+
 use hex::FromHex;
 use service::board::{Board, FIRST_SPOT, LAST_SPOT};
 use service::ledger::Ledger;
@@ -19,10 +21,17 @@ pub(crate) fn file<S: Service>(
     path: &str,
 ) -> anyhow::Result<()> {
     let text = fs::read(rt, path)?;
-    for line in text.as_slice().split_inclusive(|&byte| byte == b'\n') {
+    for line in text.as_slice().split_inclusive(ends_line) {
         perform_line(rt, service, line.strip_suffix(b"\n").unwrap_or(line))?;
     }
     Ok(())
+}
+
+/// Whether a byte ends a line.
+fn ends_line(byte: &u8) -> bool
+    ensures { result ≡ nat_eq byte.now 10 }
+{
+    *byte == b'\n'
 }
 
 /// Performs a line's body and prints the reply; a line that is no body changes nothing.
