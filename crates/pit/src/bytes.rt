@@ -38,9 +38,9 @@ pub(crate) fn read(heap: Global, word: &str) -> Result<Vec<u8>, Trouble> {
 fn decode(heap: Global, digits: &[u8]) -> Result<Vec<u8>, Trouble> {
     let mut bytes = Vec::new(heap);
     let mut block = [0; BLOCK];
-    for digits in digits.chunks(2 * BLOCK) {
-        let part = &mut block[..BLOCK.min(digits.len() / 2)];
-        hex::decode_to_slice(digits, part)?;
+    for pairs in digits.chunks(2 * BLOCK) {
+        let part = &mut block[..BLOCK.min(pairs.len() / 2)];
+        hex::decode_to_slice(pairs, part)?;
         bytes.extend_from_slice(part)?;
     }
     Ok(bytes)

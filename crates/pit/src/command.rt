@@ -37,6 +37,7 @@ impl From<ParseIntError> for Trouble {
     }
 }
 
+// Nothing that is decoded here needs memory of its own (arrays and lent blocks), so none is ever wanting.
 impl From<FromHexError> for Trouble {
     fn from(_: FromHexError) -> Trouble {
         Trouble::BadCommand
@@ -55,7 +56,7 @@ impl Trouble {
 }
 
 /// Prints why a command got no answer, and goes on unless the program cannot.
-// Inlined, as `first_words` and `of_io` are: every line goes through them, and as calls of their own they cost a short one a fifth more.
+// Inlined, as `first_words` and `of_io` are: as calls of their own, which lines of most commands go through, they cost a short one a fifth more.
 #[inline(always)]
 pub(crate) fn tell(rt: &HostRuntime, done: Result<(), Trouble>) -> anyhow::Result<()> {
     let Err(trouble) = done else {

@@ -172,6 +172,7 @@ fn read_kind(word: &str) -> Result<Kind, Trouble> {
 }
 
 /// The kinds that a word names by their numbers, with commas between: each once, however often it is named. None is every kind, `all`.
+// In a `Vec`: an `ArrayVec` is made of default values, and no kind is one. `all` needs no list.
 fn read_kinds(heap: Global, word: &str) -> Result<Option<Vec<Kind>>, Trouble> {
     if word == "all" {
         return Ok(None);

@@ -144,6 +144,7 @@ impl Board {
 }
 
 /// How many trucks stand at a spot.
+// A sum of bytes, which a processor does several at once. `filter(..).count()` goes truck by truck, and took nearly four times as long for a body.
 fn trucks_at(spots: &[u8; TRUCKS], spot: u8) -> u32
     ensures { result ≡ trucks_at spot spots.now }
 {
