@@ -1,5 +1,5 @@
 //! The ledger: how much lies on each pile.
-ghost use Rattle.std.specs.Prelude.{◌≡◌, ◌+◌, ◌≤◌, length, if◌then◌else◌, nat_lt, Ok, Err, Some, None};
+ghost use Rattle.std.specs.Prelude.{◌≡◌, Ok};
 ghost use Rattle.service.specs.Ledgers.{Within, ledger, ledger_do, ledger_operation, ledger_rule, ledger_uses, page_of, passes, pile, raised, start_piles, work_number, piles_of};
 ghost use Rattle.service.specs.Meaning.{over_front};
 ghost use Rattle.service.specs.Rules.{code_if};

@@ -47,7 +47,7 @@ pub fn bytes(reply: Reply) -> [u8; REPLY]
     }
 }
 
-/// The eight bytes of any code's number with any value, as `told` reads them back: also of a refusal with a value, which no service gives.
+/// The eight bytes of any code's number with any value: also of a refusal with a value, which neither board nor ledger gives.
 pub fn coded(code: u16, value: u32) -> [u8; REPLY]
     ensures { result ≡ coded_bytes code value }
 {
